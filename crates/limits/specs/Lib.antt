@@ -1,0 +1,3 @@
+pub mod Ranges
+pub mod Checks
+pub mod Outcome
