@@ -1,0 +1,9 @@
+pub mod Table
+pub mod Pattern
+pub mod Powers
+pub mod Floors
+pub mod Scaled
+pub mod Digits
+pub mod Mantissas
+pub mod Squares
+pub mod Nearest

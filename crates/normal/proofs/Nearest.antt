@@ -1,0 +1,280 @@
+-- The square root is the nearest f64, by whole-number squares. Assumes nothing.
+use mathlib.Core.Path.{_≡_, refl, sym, ap, _∙_, subst}
+use mathlib.Core.Bool.{Bool, true, false, not, _&&_}
+use mathlib.Core.Logic.{_⊎_, inl, inr}
+use Prim.Native.Nat.{ℕ, zero, suc, _+_, _-_, _*_, _/_, _%_, _^_, _≤_, _<_}
+use native.Mathlib.Omega.{arith}
+use native.Mathlib.Nat.{mul-comm, mul-assoc, mul-left-comm, mul-right-comm, mul-one, zero-mul, one-mul, add-mul, le-trans, le-of-eq, le-of-lt, lt-of-lt-of-le, lt-of-le-of-lt, lt-irrefl, lt-of-not-le, le-antisymm, add-comm, mul-le-mul, mul-le-mul-right, mul-lt-mul-of-pos-right, lt-of-mul-lt-mul-right, mul-pos, mul-div-cancel, div-eq-of-lt, eq-or-lt-of-le, mod-lt}
+use native.Mathlib.Decide.{decLe}
+use lib.Dec.{T, leb, ltb, eqb, ltb→lt, leb→le}
+use lib.IntN.{ℤ, pos, negsuc}
+use lib.Pow.{pow-add, pow-pos, pow-mono, shl-lt}
+use lib.Ieee.{Float, nan, inf, fin, binary64, up, down, odd, fits, size, toBits, ofBits}
+use lib.Ieee.Exact.{HasValue, odd-sign}
+use lib.Ieee.Fits.{and-l, and-r, down-pos, odd-fits}
+use lib.Ieee.Bits.{ofBits-toBits}
+use lib.Ieee.Positive.{positive, positive-of-value}
+use Rattle.floats.specs.Wholes.{units}
+use Rattle.normal.specs.Root.{notNegative, NearestRoot, sqrt, rootOfUnits, halfRoot, wholeRoot}
+use Rattle.normal.specs.Steps.{Digits}
+use Rattle.normal.proofs.Digits.{units-are, placesOf, low-digits, high-digits, places-lt}
+use Rattle.normal.proofs.Squares.{IsRoot, wholeRoot-is, q-ge, q-lt, under-even, under-odd, under-even-mul, under-odd-mul}
+
+-- ---- a float's units
+value-units : (x : Float) (a : ℕ) → HasValue x false a (2 ^ 1074) → units x ≡ a
+value-units nan a h = absurd h
+value-units (inf s) a h = absurd h
+value-units (fin s m e) a h = ap (λ (n : ℕ). n / down e) (h .1) ∙ mul-div-cancel a (down-pos e)
+
+pub odd-units : (r k : ℕ) → units (odd 53 false r k 1074) ≡ r * 2 ^ k
+odd-units r k = value-units (odd 53 false r k 1074) (r * 2 ^ k) (odd-sign 53 false r k 1074)
+
+pub fit-units : (y : Float) → T (fits binary64 y) → T (notNegative y) → (m : ℕ) × (j : ℕ) × (m < 9007199254740992) × (units y ≡ m * 2 ^ j)
+unfolding fits
+fit-units nan f p = absurd p
+fit-units (inf s) f p = absurd p
+fit-units (fin s zero e) f p = (0, 0, omega arith, ap (λ (n : ℕ). n * 2 ^ 1074 / down e) (zero-mul (up e)) ∙ div-eq-of-lt (down-pos e))
+fit-units (fin s (suc m) e) f p =
+    let A = eqb (suc m % 2) 1 in
+    let B = ltb (suc m) (2 ^ 53) in
+    let C = leb (down e) (2 ^ 1074) in
+    let D = ltb (suc m * up e) (2 ^ 1024 * down e) in (
+      suc m,
+      placesOf e,
+      ltb→lt (suc m) (2 ^ 53) (and-r A B (and-l (A && B) C (and-l (A && B && C) D f))),
+      units-are (suc m) e (leb→le (down e) (2 ^ 1074) (and-r (A && B) C (and-l (A && B && C) D f))),
+    )
+
+-- ---- whole numbers: r of 53 digits, times 2 ^ k, and m of at most 53, times 2 ^ j
+coarse : (m j k : ℕ) → k ≤ j → m * 2 ^ j ≡ m * 2 ^ (j - k) * 2 ^ k
+coarse m j k h =
+    let e : j ≡ j - k + k = omega arith in
+    ap (λ (x : ℕ). m * 2 ^ x) e ∙ ap (λ (x : ℕ). m * x) (pow-add 2 (j - k) k) ∙ sym (mul-assoc m (2 ^ (j - k)) (2 ^ k))
+
+fine : (m j k : ℕ) → m < 9007199254740992 → j < k → m * 2 ^ j < 4503599627370496 * 2 ^ k
+fine m j k M h = lt-of-lt-of-le (shl-lt 53 j M) (le-trans (pow-mono {i = 53 + j} {j = 52 + k} (omega arith)) (le-of-eq (pow-add 2 52 k)))
+
+pub next-up : (r k m j : ℕ) → 4503599627370496 ≤ r → m < 9007199254740992 → r * 2 ^ k < m * 2 ^ j → (r + 1) * 2 ^ k ≤ m * 2 ^ j
+next-up r k m j R M h = go (decLe k j)
+  where
+    go : Dec (k ≤ j) → (r + 1) * 2 ^ k ≤ m * 2 ^ j
+    go (yes y) =
+        let e = coarse m j k y in
+        let l = lt-of-mul-lt-mul-right (2 ^ k) {m = r} {n = m * 2 ^ (j - k)} (subst (λ (x : ℕ). r * 2 ^ k < x) e h) in
+        le-trans (mul-le-mul-right (2 ^ k) (let g : r + 1 ≤ m * 2 ^ (j - k) = omega arith in g)) (le-of-eq (sym e))
+    go (no f) = absurd (lt-irrefl (r * 2 ^ k) (lt-of-lt-of-le h (le-trans (le-of-lt (fine m j k M (lt-of-not-le f))) (mul-le-mul-right (2 ^ k) R))))
+
+-- the next below is a step down, or r is a power of two
+pub next-down : (r k m j : ℕ) → 4503599627370496 < r → m < 9007199254740992 → m * 2 ^ j < r * 2 ^ k → m * 2 ^ j + 2 ^ k ≤ r * 2 ^ k
+next-down r k m j R M h = go (decLe k j)
+  where
+    step : (a : ℕ) → a < r → a * 2 ^ k + 2 ^ k ≤ r * 2 ^ k
+    step a l = le-trans (le-of-eq (let e : a * 2 ^ k + 2 ^ k ≡ (a + 1) * 2 ^ k = omega arith in e)) (mul-le-mul-right (2 ^ k) (let g : a + 1 ≤ r = omega arith in g))
+
+    go : Dec (k ≤ j) → m * 2 ^ j + 2 ^ k ≤ r * 2 ^ k
+    go (yes y) =
+        let e = coarse m j k y in
+        let l = lt-of-mul-lt-mul-right (2 ^ k) {m = m * 2 ^ (j - k)} {n = r} (subst (λ (x : ℕ). x < r * 2 ^ k) e h) in
+        subst (λ (x : ℕ). x + 2 ^ k ≤ r * 2 ^ k) (sym e) (step (m * 2 ^ (j - k)) l)
+    go (no f) = let l = fine m j k M (lt-of-not-le f) in let g = step 4503599627370496 R in omega arith
+
+-- ---- the squares: N is M * 4 ^ k, with M a multiple of 4 and q its root
+module _ (x q : ℕ) (a : q * q ≤ 4 * x) (b : 4 * x < (q + 1) * (q + 1)) where
+  abbrev R : ℕ
+  R = (q + 1) / 2
+
+  pub high-square : 4 * x < (2 * R + 1) * (2 * R + 1)
+  high-square = lt-of-lt-of-le b (mul-le-mul (let g : q + 1 ≤ 2 * ((q + 1) / 2) + 1 = omega arith in g) (let g : q + 1 ≤ 2 * ((q + 1) / 2) + 1 = omega arith in g))
+
+  -- an odd square is no multiple of 4
+  odd-square : (s : ℕ) → (2 * s + 1) * (2 * s + 1) ≡ 4 * x → ⊥
+  odd-square s e = omega arith
+
+  pub low-square : (s : ℕ) → s + 1 ≡ R → (2 * s + 1) * (2 * s + 1) < 4 * x
+  low-square s e = go (eq-or-lt-of-le (le-trans (mul-le-mul (let g : 2 * s + 1 ≤ q = omega arith in g) (let g : 2 * s + 1 ≤ q = omega arith in g)) a))
+    where
+      go : ((2 * s + 1) * (2 * s + 1) ≡ 4 * x) ⊎ ((2 * s + 1) * (2 * s + 1) < 4 * x) → (2 * s + 1) * (2 * s + 1) < 4 * x
+      go (inl p) = absurd (odd-square s p)
+      go (inr l) = l
+
+-- ---- both squares, in units
+double : (k : ℕ) → 2 ^ (2 * k) ≡ 2 ^ k * 2 ^ k
+double k = ap (λ (x : ℕ). 2 ^ x) (let e : 2 * k ≡ k + k = omega arith in e) ∙ pow-add 2 k k
+
+square-scaled : (s k : ℕ) → s * s * 2 ^ (2 * k) ≡ s * 2 ^ k * (s * 2 ^ k)
+square-scaled s k = ap (λ (x : ℕ). s * s * x) (double k) ∙ simp (mul-assoc, mul-left-comm)
+
+square-lt : (u w : ℕ) → u < w → u * u < w * w
+square-lt u w h = lt-of-lt-of-le (let g : u * u < (u + 1) * (u + 1) = omega arith in g) (mul-le-mul (let g : u + 1 ≤ w = omega arith in g) (let g : u + 1 ≤ w = omega arith in g))
+
+-- M is 4 * x, of root q; r is half of q, rounded
+module _ (x q k m j : ℕ) (a : q * q ≤ 4 * x) (b : 4 * x < (q + 1) * (q + 1)) (G : 9007199254740992 ≤ q) (M : m < 9007199254740992) where
+  pub squares-above : (q + 1) / 2 * 2 ^ k < m * 2 ^ j → 4 * x * 2 ^ (2 * k) < (m * 2 ^ j + (q + 1) / 2 * 2 ^ k) * (m * 2 ^ j + (q + 1) / 2 * 2 ^ k)
+  squares-above h =
+      let R = (q + 1) / 2 in
+      let n = next-up ((q + 1) / 2) k m j (omega arith) M h in
+      let e : (2 * ((q + 1) / 2) + 1) * 2 ^ k ≡ ((q + 1) / 2 + 1) * 2 ^ k + (q + 1) / 2 * 2 ^ k = omega arith in
+      let l : (2 * ((q + 1) / 2) + 1) * 2 ^ k ≤ m * 2 ^ j + (q + 1) / 2 * 2 ^ k = omega arith in
+      lt-of-lt-of-le (mul-lt-mul-of-pos-right (high-square x q a b) (pow-pos (2 * k)))
+      (le-trans (le-of-eq (square-scaled (2 * ((q + 1) / 2) + 1) k)) (mul-le-mul l l))
+
+  pub squares-below : m * 2 ^ j < (q + 1) / 2 * 2 ^ k → (m * 2 ^ j + (q + 1) / 2 * 2 ^ k) * (m * 2 ^ j + (q + 1) / 2 * 2 ^ k) < 4 * x * 2 ^ (2 * k)
+  squares-below h = go (decLe ((q + 1) / 2) 4503599627370496)
+    where
+      go : Dec ((q + 1) / 2 ≤ 4503599627370496) → (m * 2 ^ j + (q + 1) / 2 * 2 ^ k) * (m * 2 ^ j + (q + 1) / 2 * 2 ^ k) < 4 * x * 2 ^ (2 * k)
+      go (yes y) =
+          let l : m * 2 ^ j + (q + 1) / 2 * 2 ^ k < (2 * ((q + 1) / 2)) * 2 ^ k = (let e : 2 * ((q + 1) / 2) * 2 ^ k ≡ (q + 1) / 2 * 2 ^ k + (q + 1) / 2 * 2 ^ k = omega arith in omega arith) in
+          let g : 2 * ((q + 1) / 2) ≤ q = omega arith in
+          lt-of-lt-of-le (square-lt (m * 2 ^ j + (q + 1) / 2 * 2 ^ k) (2 * ((q + 1) / 2) * 2 ^ k) l)
+          (le-trans (le-of-eq (sym (square-scaled (2 * ((q + 1) / 2)) k))) (mul-le-mul-right (2 ^ (2 * k)) (le-trans (mul-le-mul g g) a)))
+      go (no f) =
+          let s = (q + 1) / 2 - 1 in
+          let e : (q + 1) / 2 - 1 + 1 ≡ (q + 1) / 2 = omega arith in
+          let n = next-down ((q + 1) / 2) k m j (lt-of-not-le f) M h in
+          let c : (2 * ((q + 1) / 2 - 1) + 1) * 2 ^ k + 2 ^ k ≡ (q + 1) / 2 * 2 ^ k + (q + 1) / 2 * 2 ^ k = ap (λ (t : ℕ). (2 * ((q + 1) / 2 - 1) + 1) * 2 ^ k + t) (sym (one-mul (2 ^ k))) ∙ sym (add-mul (2 * ((q + 1) / 2 - 1) + 1) 1 (2 ^ k)) ∙ ap (λ (t : ℕ). t * 2 ^ k) (let w : 2 * ((q + 1) / 2 - 1) + 1 + 1 ≡ (q + 1) / 2 + (q + 1) / 2 = omega arith in w) ∙ add-mul ((q + 1) / 2) ((q + 1) / 2) (2 ^ k) in
+          let l : m * 2 ^ j + (q + 1) / 2 * 2 ^ k ≤ (2 * ((q + 1) / 2 - 1) + 1) * 2 ^ k = omega arith in
+          lt-of-le-of-lt (mul-le-mul l l)
+          (lt-of-le-of-lt (le-of-eq (sym (square-scaled (2 * ((q + 1) / 2 - 1) + 1) k))) (mul-lt-mul-of-pos-right (low-square x q a b ((q + 1) / 2 - 1) e) (pow-pos (2 * k))))
+
+-- ---- the theorem
+four : (n : ℕ) → 4 * (n * 2 ^ 1074) ≡ n * 2 ^ 1076
+four n = mul-comm 4 (n * 2 ^ 1074) ∙ mul-assoc n (2 ^ 1074) 4
+
+pub at-positive : (v : Float) → T (positive v) → rootOfUnits (units v) ≡ sqrt v
+unfolding sqrt
+at-positive nan n = absurd n
+at-positive (inf s) n = absurd n
+at-positive (fin true m e) n = absurd n
+at-positive (fin false zero e) n = absurd n
+at-positive (fin false (suc m) e) n = refl
+
+module _ (v : Float) (F : T (fits binary64 v)) (P : T (positive v)) where
+  abbrev n : ℕ
+  n = units v
+
+  abbrev k : ℕ
+  k = (size (units v) + 969) / 2
+
+  -- what stands under the root, 53 or 54 digits t and 54 zeros
+  Under : ℕ → Type 0
+  Under t = (4503599627370496 ≤ t) × (t + 1 < 18014398509481984) × (units v * 2 ^ 1076 / 2 ^ (2 * k) ≡ t * 18014398509481984) × (units v * 2 ^ 1076 ≡ t * 18014398509481984 * 2 ^ (2 * k))
+
+  under-hi : (t : ℕ) → Under t → t + 1 < 18014398509481984
+  unfolding Under
+  under-hi t u = u .1
+
+  some-digits : (d : ℕ) × Digits v d (size (units v))
+  some-digits = go (decLe 4503599627370496 (toBits binary64 v))
+    where
+      at-size : (d z : ℕ) → Digits v d z → (d : ℕ) × Digits v d (size (units v))
+      at-size d z D = (d, subst (λ (x : ℕ). Digits v d x) (D .places) D)
+
+      go : Dec (4503599627370496 ≤ toBits binary64 v) → (d : ℕ) × Digits v d (size (units v))
+      go (yes y) = at-size _ _ (high-digits v F P y)
+      go (no f) = at-size _ _ (low-digits v F P (lt-of-not-le f))
+
+  under : (t : ℕ) × Under t
+  unfolding Under
+  under = go (some-digits .0) (some-digits .1) (size (units v) % 2) refl (mod-lt (size (units v)) (omega arith))
+    where
+      go : (d : ℕ) → Digits v d (size (units v)) → (p : ℕ) → size (units v) % 2 ≡ p → p < 2 → (t : ℕ) × Under t
+      go d D zero e l = (2 * d, (omega (arith, D .low), omega (arith, D .high), under-even n d (size n) (D .value) e, under-even-mul n d (size n) (D .value) e))
+      go d D (suc p) e l =
+          let o : size (units v) % 2 ≡ 0 → ⊥ = λ (z : size (units v) % 2 ≡ 0). lt-irrefl 0 (omega arith) in
+          (d, (D .low, omega (arith, D .high), under-odd n d (size n) (D .value) o, under-odd-mul n d (size n) (D .value) o))
+
+  from-root : (t q : ℕ) → Under t → q * q ≤ t * 18014398509481984 → t * 18014398509481984 < (q + 1) * (q + 1) → (r : Float) → units r ≡ (q + 1) / 2 * 2 ^ k → T (fits binary64 r) → T (positive r) → NearestRoot v r
+  unfolding Under
+  from-root t q u a b r e f p =
+      let N : 4 * (units v * 2 ^ 1074) ≡ 4 * (t * 4503599627370496) * 2 ^ (2 * k) =
+      four (units v) ∙ u .3 ∙ ap (λ (x : ℕ). x * 2 ^ (2 * k)) (let g : t * 18014398509481984 ≡ 4 * (t * 4503599627370496) = omega arith in g) in
+      let G = q-ge t q (u .0) (u .1) a b in
+      let a' : q * q ≤ 4 * (t * 4503599627370496) = omega arith in
+      let b' : 4 * (t * 4503599627370496) < (q + 1) * (q + 1) = omega arith in
+      record {
+        held = f;
+        sign = p;
+        above = λ (y : Float) fy py h.
+            let w = fit-units y fy py in
+            subst (λ (x : ℕ). x < (units y + units r) * (units y + units r)) (sym N)
+            (subst (λ (x : ℕ). 4 * (t * 4503599627370496) * 2 ^ (2 * k) < x * x) (ap (λ (x : ℕ). x + (q + 1) / 2 * 2 ^ k) (sym (w .3)) ∙ ap (λ (x : ℕ). units y + x) (sym e))
+            (squares-above (t * 4503599627370496) q k (w .0) (w .1) a' b' G (w .2)
+            (subst (λ (x : ℕ). (q + 1) / 2 * 2 ^ k < x) (w .3) (subst (λ (x : ℕ). x < units y) e h))));
+        below = λ (y : Float) fy py h.
+            let w = fit-units y fy py in
+            subst (λ (x : ℕ). (units y + units r) * (units y + units r) < x) (sym N)
+            (subst (λ (x : ℕ). x * x < 4 * (t * 4503599627370496) * 2 ^ (2 * k)) (ap (λ (x : ℕ). x + (q + 1) / 2 * 2 ^ k) (sym (w .3)) ∙ ap (λ (x : ℕ). units y + x) (sym e))
+            (squares-below (t * 4503599627370496) q k (w .0) (w .1) a' b' G (w .2)
+            (subst (λ (x : ℕ). x < (q + 1) / 2 * 2 ^ k) (w .3) (subst (λ (x : ℕ). units y < x) e h))));
+      }
+
+  root-fits : (t q : ℕ) → Under t → q * q ≤ t * 18014398509481984 → t * 18014398509481984 < (q + 1) * (q + 1) → T (fits binary64 (odd 53 false ((q + 1) / 2) k 1074))
+  unfolding Under
+  root-fits t q u a b =
+      let l = q-lt t q (u .0) (u .1) a b in
+      let s = places-lt v F P in
+      let r : (q + 1) / 2 < 9007199254740992 = omega arith in
+      odd-fits binary64 53 false ((q + 1) / 2) k r (le-of-lt r) (lt-of-lt-of-le (shl-lt 53 k r) (pow-mono {i = 53 + k} {j = 2098} (omega arith)))
+
+  root-sign : (t q : ℕ) → Under t → q * q ≤ t * 18014398509481984 → t * 18014398509481984 < (q + 1) * (q + 1) → T (positive (odd 53 false ((q + 1) / 2) k 1074))
+  unfolding Under
+  root-sign t q u a b =
+      let g = q-ge t q (u .0) (u .1) a b in
+      positive-of-value (odd 53 false ((q + 1) / 2) k 1074) ((q + 1) / 2 * 2 ^ k) (2 ^ 1074) (odd-sign 53 false ((q + 1) / 2) k 1074) (mul-pos (omega arith) (pow-pos k))
+
+  sqrt-is : (t : ℕ) → Under t → sqrt v ≡ odd 53 false ((wholeRoot 54 (t * 18014398509481984) + 1) / 2) k 1074
+  unfolding Under rootOfUnits halfRoot
+  sqrt-is t u = sym (at-positive v P) ∙ ap (λ (x : ℕ). halfRoot x k) (u .2)
+
+  pub nearest-root : NearestRoot v (sqrt v)
+  unfolding IsRoot
+  nearest-root =
+      let t = under .0 in
+      let u = under .1 in
+      let q = wholeRoot 54 (under .0 * 18014398509481984) in
+      let i = wholeRoot-is 54 (under .0 * 18014398509481984) (under-lt (under .0) (under .1)) in
+      subst (λ (r : Float). NearestRoot v r) (sym (sqrt-is t u))
+      (from-root t q u (i .0) (i .1) (odd 53 false ((q + 1) / 2) k 1074) (odd-units ((q + 1) / 2) k) (root-fits t q u (i .0) (i .1)) (root-sign t q u (i .0) (i .1)))
+    where
+      under-lt : (t : ℕ) → Under t → t * 18014398509481984 < 2 ^ 108
+      under-lt t u = let l = under-hi t u in omega arith
+
+-- ---- at most one f64 is the nearest
+-- the pattern of a float above 0 is read off its units
+abbrev patternOf : ℕ → ℕ
+patternOf n = 0 + (size n - 53) * 4503599627370496 + n / 2 ^ (size n - 53)
+
+pattern-is : (x : Float) → T (positive x) → toBits binary64 x ≡ patternOf (units x)
+unfolding toBits
+pattern-is nan p = absurd p
+pattern-is (inf s) p = absurd p
+pattern-is (fin true m e) p = absurd p
+pattern-is (fin false m e) p = refl
+
+pub same-units : (x y : Float) → T (fits binary64 x) → T (fits binary64 y) → T (positive x) → T (positive y) → units x ≡ units y → x ≡ y
+same-units x y fx fy px py e =
+    sym (ofBits-toBits binary64 x fx)
+    ∙ ap (ofBits binary64) (pattern-is x px ∙ ap patternOf e ∙ sym (pattern-is y py))
+    ∙ ofBits-toBits binary64 y fy
+
+pub positive-not-negative : (x : Float) → T (positive x) → T (notNegative x)
+positive-not-negative nan p = p
+positive-not-negative (inf s) p = p
+positive-not-negative (fin true m e) p = p
+positive-not-negative (fin false m e) p = tt
+
+pub root-unique : (v r s : Float) → NearestRoot v r → NearestRoot v s → r ≡ s
+root-unique v r s R S = same-units r s (R .held) (S .held) (R .sign) (S .sign) (le-antisymm (at-most R S) (at-most S R))
+  where
+    at-most : {x y : Float} → NearestRoot v x → NearestRoot v y → units x ≤ units y
+    at-most {x} {y} X Y = go (decLe (units x) (units y))
+      where
+        clash : units y < units x → ⊥
+        clash h =
+            lt-irrefl (4 * (units v * 2 ^ 1074))
+            (lt-of-lt-of-le (Y .above x (X .held) (positive-not-negative x (X .sign)) h)
+            (le-of-lt (subst (λ (n : ℕ). n * n < 4 * (units v * 2 ^ 1074)) (add-comm (units y) (units x)) (X .below y (Y .held) (positive-not-negative y (Y .sign)) h))))
+
+        go : Dec (units x ≤ units y) → units x ≤ units y
+        go (yes l) = l
+        go (no f) = absurd (clash (lt-of-not-le f))

@@ -1,0 +1,42 @@
+-- A table's rule at each entry, from one test that is computed over the whole table; and a constant array's entries are those of a table where the
+-- two lists are the same, which is computed once. Assumes nothing.
+use mathlib.Core.Path.{_≡_, refl, ap, _∙_, subst, sym}
+use mathlib.Core.Bool.{Bool, true, false, _&&_}
+use mathlib.Core.List.{List, [], _∷_}
+use Prim.Native.Nat.{ℕ, zero, suc, _+_, _<_}
+use native.Mathlib.Nat.{add-zero, zero-add, add-suc, suc-add, le-of-suc-le-suc, not-suc-le-zero}
+use lib.Dec.{T}
+use lib.ListN.{getD}
+use lib.Ieee.{Float, nan}
+use lib.Ieee.Fits.{and-l, and-r}
+
+-- the test f passes at each of n places, counted from i
+unfoldable pub every : (ℕ → Bool) → ℕ → ℕ → Bool
+every f i zero = true
+every f i (suc n) = f i && every f (suc i) n
+
+from : (f : ℕ → Bool) (n i : ℕ) → T (every f i n) → (k : ℕ) → k < n → T (f (i + k))
+unfolding every
+from f zero i t k h = absurd (not-suc-le-zero h)
+from f (suc n) i t zero h = subst (λ (m : ℕ). T (f m)) (sym (add-zero i)) (and-l (f i) (every f (suc i) n) t)
+from f (suc n) i t (suc k) h =
+    subst (λ (m : ℕ). T (f m)) (suc-add i k ∙ sym (add-suc i k))
+    (from f n (suc i) (and-r (f i) (every f (suc i) n) t) k (le-of-suc-le-suc h))
+
+pub at : (f : ℕ → Bool) (n : ℕ) → T (every f 0 n) → (k : ℕ) → k < n → T (f k)
+at f n t k h = subst (λ (m : ℕ). T (f m)) (zero-add k) (from f n 0 t k h)
+
+-- n entries of a table, counted from i
+unfoldable pub entries : (ℕ → Float) → ℕ → ℕ → List Float
+entries f i zero = []
+entries f i (suc n) = f i ∷ entries f (suc i) n
+
+entry-from : (f : ℕ → Float) (n i k : ℕ) → k < n → getD (entries f i n) k nan ≡ f (i + k)
+unfolding entries
+entry-from f zero i k h = absurd (not-suc-le-zero h)
+entry-from f (suc n) i zero h = ap f (sym (add-zero i))
+entry-from f (suc n) i (suc k) h = entry-from f n (suc i) k (le-of-suc-le-suc h) ∙ ap f (suc-add i k ∙ sym (add-suc i k))
+
+-- the array of the code is the table
+pub entry : (f : ℕ → Float) (n : ℕ) (array : List Float) → array ≡ entries f 0 n → (k : ℕ) → k < n → getD array k nan ≡ f k
+entry f n array e k h = ap (λ (xs : List Float). getD xs k nan) e ∙ entry-from f n 0 k h ∙ ap f (zero-add k)

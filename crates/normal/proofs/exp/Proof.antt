@@ -1,0 +1,88 @@
+-- `normal::exp` meets its contract. What `floor` and `two_to` require is in `proofs/Scaled.antt`. Assumes nothing.
+use mathlib.Core.Path.{_≡_, refl, sym, ap, _∙_, subst}
+use mathlib.Core.Bool.{Bool, true, false, true≢false}
+use native.Mathlib.Omega.{arith}
+use borrow.Author.Needs.{needs}
+use lib.Dec.{T, ltb→lt}
+use lib.IntN.{ℤ, pos, negsuc}
+use lib.Ieee.{Float, nan, inf, fin, isNan, ne, lt, ofBits, neg, div, round}
+use lib.Ieee.Compare.{differs-from-itself, nan-differs}
+use mir.Syntax.{w64}
+use mir.Val.{toZ, ofZ, SFits}
+use mir.ValLaws.{toZ-ofZ}
+use Rattle.normal.specs.Exp.{scaled, exp, expAt, floor}
+use Rattle.normal.specs.Steps.{inExponent}
+use Rattle.normal.proofs.Scaled.{InRange, in-range, range-small, range-exponent}
+use Rattle.normal.proofs.exp.Statement.{statement}
+use Rattle.normal.proofs.exp.Tie as tie
+
+no-nan : (v : Float) → ne v v ≡ false → isNan v ≡ false
+unfolding isNan
+no-nan nan h = absurd (true≢false (sym nan-differs ∙ h))
+no-nan (inf s) h = refl
+no-nan (fin s m e) h = refl
+
+at-nan : (v : Float) → v ≡ nan → v ≡ exp v
+unfolding exp isNan
+at-nan v h = subst (λ (y : Float). y ≡ exp y) (sym h) refl
+
+returns : tie.Need-returns
+returns c = at-nan (c .before .args .v) (differs-from-itself (c .before .args .v) (subst T (sym (c .if1 .taken)) tt))
+
+returns-2 : tie.Need-returns-2
+unfolding exp div ofBits round lt
+returns-2 c = rw (no-nan (c .before .before .args .v) (c .before .if1 .left), c .if2 .taken)
+
+returns-3 : tie.Need-returns-3
+unfolding exp ofBits neg round lt
+returns-3 c = rw (no-nan (c .before .before .before .args .v) (c .before .before .if1 .left), c .before .if2 .left, c .if3 .taken)
+
+t-range : (c : tie.Else3) → InRange (scaled (c .before .before .before .args .v))
+unfolding ofBits neg round
+t-range c = in-range (c .before .before .before .args .v) (c .before .before .if1 .left) (c .before .if2 .left) (c .if3 .left)
+
+floor-requires : tie.Need-floor-requires
+unfolding ofBits round
+floor-requires c κs = range-small _ (t-range c)
+
+nearest-i64-to-f64-requires : tie.Need-nearest-i64-to-f64-requires
+nearest-i64-to-f64-requires c κs = search needs
+
+horner-e-requires : tie.Need-horner-e-requires
+horner-e-requires c κs = search needs
+
+small-fits : (k : ℤ) → T (inExponent k) → SFits w64 k
+small-fits (pos n) h = let l = ltb→lt n 1024 h in record { sfits = omega arith }
+small-fits (negsuc n) h = let l = ltb→lt n 1022 h in record { sfits = omega arith }
+
+-- the floor, as the machine has it
+back : (c : tie.After-floor) → toZ w64 (ofZ w64 (c .floor .result)) ≡ floor (scaled (c .before .before .before .before .args .v))
+unfolding floor ofBits round
+back c =
+    ap (λ (z : ℤ). toZ w64 (ofZ w64 z)) (c .floor .ensures)
+    ∙ toZ-ofZ w64 (floor (scaled (c .before .before .before .before .args .v))) (small-fits _ (range-exponent _ (t-range (c .before))))
+
+two-to-requires : tie.Need-two-to-requires
+two-to-requires c κs =
+    let a = c .before .before in
+    subst (λ (z : ℤ). T (inExponent z)) (sym (back a)) (range-exponent _ (t-range (a .before)))
+
+returns-4 : tie.Need-returns-4
+unfolding exp expAt ofBits neg round lt
+returns-4 c =
+    let f = c .before .before .before in
+    let a = f .before in
+    rw (
+      no-nan (a .before .before .before .args .v) (a .before .before .if1 .left),
+      a .before .if2 .left,
+      a .if3 .left,
+      c .before .horner-e .ensures,
+      c .two-to .ensures,
+      c .before .before .nearest-i64-to-f64 .ensures,
+      back f,
+    )
+
+pub exp-spec : {M : Type 1} → statement M
+exp-spec =
+    tie.close
+    (tie.spec returns returns-2 returns-3 floor-requires nearest-i64-to-f64-requires horner-e-requires two-to-requires returns-4)

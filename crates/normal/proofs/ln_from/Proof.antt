@@ -1,0 +1,50 @@
+-- `normal::ln_from` meets its contract. Assumes nothing.
+use mathlib.Core.Path.{_≡_, refl, sym, ap, _∙_, subst}
+use Prim.Native.Nat.{ℕ, zero, suc, _+_, _<_}
+use native.Mathlib.Omega.{arith}
+use borrow.Author.Needs.{needs}
+use borrow.Author.Tests.{lt-ltb, le-ltb}
+use lib.IntN.{ℤ, pos, negsuc, _+ℤ_}
+use lib.Signed.{mag}
+use lib.Ieee.{ofBits, round, lt}
+use mir.Syntax.{w64}
+use mir.Val.{toZ, ofZ, SFits}
+use mir.ValLaws.{toZ-ofZ}
+use Rattle.normal.specs.Ln.{lnFrom}
+use Rattle.normal.proofs.ln_from.Statement.{statement}
+use Rattle.normal.proofs.ln_from.Tie as tie
+
+one-more : (e : ℤ) → mag e < 5000 → SFits w64 (e +ℤ pos 1)
+one-more (pos n) h = record { sfits = omega arith }
+one-more (negsuc zero) h = record { sfits = omega arith }
+one-more (negsuc (suc n)) h = rw (lt-ltb 1 (suc (suc n)) (omega arith)) (record { sfits = omega arith })
+
+back : (e : ℤ) → SFits w64 e → toZ w64 (ofZ w64 e) +ℤ pos 1 ≡ e +ℤ pos 1
+back e f = ap (λ (z : ℤ). z +ℤ pos 1) (toZ-ofZ w64 e f)
+
+back-again : (e : ℤ) → SFits w64 e → mag e < 5000 → toZ w64 (ofZ w64 (toZ w64 (ofZ w64 e) +ℤ pos 1)) ≡ e +ℤ pos 1
+back-again e f h = ap (λ (z : ℤ). toZ w64 (ofZ w64 z)) (back e f) ∙ toZ-ofZ w64 (e +ℤ pos 1) (one-more e h)
+
+add-ln-at : tie.Need-add-ln-at
+add-ln-at c = let a = c .before in rw (back (a .args .e) (a .fits .e)) (one-more (a .args .e) (a .pre))
+
+ln-at-requires : tie.Need-ln-at-requires
+ln-at-requires c κs = search needs
+
+ln-at-requires-2 : tie.Need-ln-at-requires-2
+ln-at-requires-2 c κs = search needs
+
+returns : tie.Need-returns
+unfolding lnFrom round ofBits lt
+returns c =
+    let a = c .before .before in
+    rw (c .before .if1 .taken, c .ln-at .ensures, back-again (a .args .e) (a .fits .e) (a .pre))
+
+returns-2 : tie.Need-returns-2
+unfolding lnFrom round ofBits lt
+returns-2 c =
+    let a = c .before .before in
+    rw (c .before .if1 .left, c .ln-at2 .ensures, toZ-ofZ w64 (a .args .e) (a .fits .e))
+
+pub ln-from-spec : {M : Type 1} → statement M
+ln-from-spec = tie.close (tie.spec add-ln-at ln-at-requires ln-at-requires-2 returns returns-2)

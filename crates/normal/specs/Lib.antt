@@ -1,0 +1,9 @@
+pub mod Tables
+pub mod Root
+pub mod Exp
+pub mod Ln
+pub mod Erfc
+pub mod Normal
+pub mod NotANumber
+pub mod Examples
+pub mod Steps

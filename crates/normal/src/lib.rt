@@ -1,0 +1,321 @@
+// exp, ln, erfc, pdf, cdf and the square root on f64, each equal to its definition in specs/ for every input.
+ghost use mathlib.Core.Path.{_≡_};
+ghost use lib.Dec.{T};
+ghost use lib.IntN.{pos, negsuc};
+ghost use lib.Signed.{mag};
+ghost use lib.Ieee.Positive.{positive};
+ghost use Prim.Native.Nat.{_+_, _*_, _/_, _^_, _≤_, _<_};
+ghost use Rattle.normal.specs.Tables.{E, L, polynomial};
+ghost use Rattle.normal.specs.Root.{SquareRoot, halfRoot};
+ghost use Rattle.normal.specs.Exp.{exp, floor, twoTo, expDegree};
+ghost use Rattle.normal.specs.Ln.{ln, lnAt, lnFrom, lnDegree};
+ghost use Rattle.normal.specs.Erfc.{series, terms, fraction, levels, erfc, erfcFromZero};
+ghost use Rattle.normal.specs.Normal.{pdf, cdf};
+ghost use Rattle.normal.specs.Steps.{Digits, Stepped, inExponent, Small};
+
+// The f64 nearest 1/i!.
+const E: [f64; 14] = [
+    1.0,
+    1.0,
+    0.5,
+    0.16666666666666666,
+    0.041666666666666664,
+    0.008333333333333333,
+    0.001388888888888889,
+    0.0001984126984126984,
+    2.48015873015873e-05,
+    2.7557319223985893e-06,
+    2.755731922398589e-07,
+    2.505210838544172e-08,
+    2.08767569878681e-09,
+    1.6059043836821613e-10,
+];
+
+// The f64 nearest 1/(2i+1).
+const L: [f64; 11] = [
+    1.0,
+    0.3333333333333333,
+    0.2,
+    0.14285714285714285,
+    0.1111111111111111,
+    0.09090909090909091,
+    0.07692307692307693,
+    0.06666666666666667,
+    0.058823529411764705,
+    0.05263157894736842,
+    0.047619047619047616,
+];
+
+fn horner_e(r: f64) -> f64
+    ensures { λ p. ⌜ p ≡ polynomial E expDegree r ⌝ }
+{
+    let mut p = E[13];
+    let mut n: usize = 0;
+    while n < 13 {
+        p = p * r + E[12 - n];
+        n += 1;
+    }
+    p
+}
+
+fn horner_l(w: f64) -> f64
+    ensures { λ q. ⌜ q ≡ polynomial L lnDegree w ⌝ }
+{
+    let mut q = L[10];
+    let mut n: usize = 0;
+    while n < 10 {
+        q = q * w + L[9 - n];
+        n += 1;
+    }
+    q
+}
+
+// The sum of the series after its 40 rounds.
+fn series(v: f64) -> f64
+    ensures { λ r. ⌜ r ≡ series v terms .sum ⌝ }
+{
+    let mut g = v;
+    let mut sum = v;
+    let mut n: u32 = 0;
+    while n < 40 {
+        g = (g * ((2.0 * v) * v)) / ((2 * n + 3) as f64);
+        sum = sum + g;
+        n += 1;
+    }
+    sum
+}
+
+// c after its 60 rounds.
+fn fraction(v: f64) -> f64
+    ensures { λ r. ⌜ r ≡ fraction v levels ⌝ }
+{
+    let mut c = v;
+    let mut n: u32 = 0;
+    while n < 60 {
+        c = v + (((60 - n) as f64) / 2.0) / c;
+        n += 1;
+    }
+    c
+}
+
+// The largest whole number not above t.
+fn floor(t: f64) -> i64
+    requires { ⌜ Small t ⌝ }
+    ensures { λ k. ⌜ k ≡ floor t ⌝ }
+{
+    let q = std::num::truncating_f64_to_i64(t);
+    if t < std::num::nearest_i64_to_f64(q) {
+        q - 1
+    } else {
+        q
+    }
+}
+
+// 2^k: its exponent's field is k + 1023.
+fn two_to(k: i64) -> f64
+    requires { ⌜ T (inExponent k) ⌝ }
+    ensures { λ r. ⌜ r ≡ twoTo k ⌝ }
+{
+    f64::from_bits(((k + 1023) as u64) * 4503599627370496)
+}
+
+pub fn exp(v: f64) -> f64
+    ensures { λ r. ⌜ r ≡ exp v ⌝ }
+{
+    if v != v {
+        return v;
+    }
+    if v > 709.0 {
+        return 1.0 / 0.0;
+    }
+    if v < -708.0 {
+        return 0.0;
+    }
+    let k = floor(v * 1.4426950408889634 + 0.5);
+    let f = std::num::nearest_i64_to_f64(k);
+    let r = (v - f * 0.693147180369123816490) - f * 1.90821492927058770002e-10;
+    horner_e(r) * two_to(k)
+}
+
+// erfc of a v not below 0.
+fn erfc_from_zero(v: f64) -> f64
+    ensures { λ r. ⌜ r ≡ erfcFromZero v ⌝ }
+{
+    if v < 2.0 {
+        1.0 - (1.1283791670955126 * exp(-(v * v))) * series(v)
+    } else {
+        (exp(-(v * v)) * 0.5641895835477563) / fraction(v)
+    }
+}
+
+pub fn erfc(v: f64) -> f64
+    ensures { λ r. ⌜ r ≡ erfc v ⌝ }
+{
+    if v < 0.0 {
+        2.0 - erfc_from_zero(-v)
+    } else {
+        erfc_from_zero(v)
+    }
+}
+
+// The standard normal density.
+pub fn pdf(x: f64) -> f64
+    ensures { λ r. ⌜ r ≡ pdf x ⌝ }
+{
+    0.3989422804014327 * exp(-0.5 * x * x)
+}
+
+// The standard normal probability of a value not above x.
+pub fn cdf(x: f64) -> f64
+    ensures { λ r. ⌜ r ≡ cdf x ⌝ }
+{
+    0.5 * erfc(-x / 1.4142135623730951)
+}
+
+// The 53 leading binary digits of a float above 0, and how many digits it has in units of 2^-1074.
+struct Parts {
+    digits: u64,
+    size: u64,
+}
+
+fn taken_apart(v: f64) -> Parts
+    requires { ⌜ T (positive v) ⌝ }
+    ensures { λ r. ⌜ Digits v (r .digits) (r .size) ⌝ }
+{
+    let b = f64::to_bits(v);
+    let field = b / 4503599627370496;
+    if field == 0 {
+        let z = u64::leading_zeros(b) as u64;
+        Parts {
+            digits: b << (z - 11),
+            size: 64 - z,
+        }
+    } else {
+        Parts {
+            digits: b % 4503599627370496 + 4503599627370496,
+            size: field + 52,
+        }
+    }
+}
+
+// ln of m * 2^e, with m at most 1.4142135623730951.
+fn ln_at(m: f64, e: i64) -> f64
+    ensures { λ r. ⌜ r ≡ lnAt m e ⌝ }
+{
+    let z = (m - 1.0) / (m + 1.0);
+    let q = horner_l(z * z);
+    let f = std::num::nearest_i64_to_f64(e);
+    f * 0.693147180369123816490 + ((2.0 * z) * q + f * 1.90821492927058770002e-10)
+}
+
+// ln of m * 2^e, with m in [1, 2).
+fn ln_from(m: f64, e: i64) -> f64
+    requires { ⌜ mag e < 5000 ⌝ }
+    ensures { λ r. ⌜ r ≡ lnFrom m e ⌝ }
+{
+    if m > 1.4142135623730951 {
+        ln_at(m * 0.5, e + 1)
+    } else {
+        ln_at(m, e)
+    }
+}
+
+pub fn ln(v: f64) -> f64
+    ensures { λ r. ⌜ r ≡ ln v ⌝ }
+{
+    if v != v {
+        return v;
+    }
+    if v < 0.0 {
+        return 0.0 / 0.0;
+    }
+    if v == 0.0 {
+        return -1.0 / 0.0;
+    }
+    if v == 1.0 / 0.0 {
+        return v;
+    }
+    let p = taken_apart(v);
+    let d = p.digits;
+    let z = p.size;
+    ln_from(f64::from_bits(d + 4602678819172646912), (z as i64) - 1075)
+}
+
+// The root so far, and what is left below it.
+struct Rooted {
+    q: u64,
+    rem: u64,
+}
+
+// One more binary digit of a root, for two more digits d of the number under it.
+fn step(q: u64, rem: u64, d: u64) -> Rooted
+    requires { ⌜ (rem ≤ 2 * q) × (d < 4) × (q < 2 ^ 60) ⌝ }
+    ensures { λ r. ⌜ Stepped q rem d (r .q) (r .rem) ⌝ }
+{
+    let r = 4 * rem + d;
+    if 4 * q + 1 <= r {
+        Rooted {
+            q: 2 * q + 1,
+            rem: r - (4 * q + 1),
+        }
+    } else {
+        Rooted { q: 2 * q, rem: r }
+    }
+}
+
+// The whole root of t * 2^54.
+fn root(t: u64) -> u64
+    requires { ⌜ t < 2 ^ 54 ⌝ }
+    ensures { λ q. ⌜ (q * q ≤ t * 2 ^ 54) × (t * 2 ^ 54 < (q + 1) * (q + 1)) ⌝ }
+{
+    let mut q: u64 = 0;
+    let mut rem: u64 = 0;
+    let mut i: u64 = 27;
+    while 0 < i {
+        i -= 1;
+        let s = step(q, rem, (t >> (2 * i)) % 4);
+        q = s.q;
+        rem = s.rem;
+    }
+    let mut n: u64 = 0;
+    while n < 27 {
+        let s = step(q, rem, 0);
+        q = s.q;
+        rem = s.rem;
+        n += 1;
+    }
+    q
+}
+
+// Half the root of t * 2^54, to the nearest whole number, times 2^k units.
+fn halved_root(t: u64, z: u64) -> f64
+    requires { ⌜ (2 ^ 52 ≤ t) × (t + 1 < 2 ^ 54) × (z < 2099) ⌝ }
+    ensures { λ r. ⌜ r ≡ halfRoot (t * 2 ^ 54) ((z + 969) / 2) ⌝ }
+{
+    f64::from_bits((root(t) + 1) / 2 + ((z + 969) / 2) * 4503599627370496)
+}
+
+pub fn sqrt(v: f64) -> f64
+    ensures { λ r. ⌜ SquareRoot v r ⌝ }
+{
+    if v != v {
+        return v;
+    }
+    if v < 0.0 {
+        return 0.0 / 0.0;
+    }
+    if v == 0.0 {
+        return v;
+    }
+    if v == 1.0 / 0.0 {
+        return v;
+    }
+    let p = taken_apart(v);
+    let d = p.digits;
+    let z = p.size;
+    if z % 2 == 0 {
+        halved_root(2 * d, z)
+    } else {
+        halved_root(d, z)
+    }
+}
