@@ -7,3 +7,5 @@ pub mod Digits
 pub mod Mantissas
 pub mod Squares
 pub mod Nearest
+pub mod Examples
+pub mod Mirror

@@ -1,0 +1,23 @@
+-- Below 0, erfc is 2 - erfc of the mirror image: the mirror image is not below 0. Assumes nothing.
+use mathlib.Core.Path.{_≡_, refl, sym}
+use mathlib.Core.Bool.{true, false, true≢false}
+use Prim.Native.Nat.{_*_}
+use native.Mathlib.Omega.{arith}
+use native.Mathlib.Nat.{zero-mul}
+use borrow.Author.Tests.{le-ltb}
+use lib.Ieee.{Float, nan, inf, fin, up, down, neg, lt, round}
+use Rattle.floats.specs.Operators.{decimal, _⊖_, _≺_}
+use Rattle.floats.proofs.Signs.{O, below-zero}
+use Rattle.normal.specs.Erfc.{erfc}
+
+mirrored : (v : Float) → v ≺ O ≡ true → neg v ≺ O ≡ false
+unfolding lt neg round
+mirrored nan h = refl
+mirrored (inf false) h = absurd (true≢false (sym h))
+mirrored (inf true) h = refl
+mirrored (fin true m e) h = le-ltb (m * up e * 1) (0 * down e) (let z = zero-mul (down e) in omega arith)
+mirrored (fin false m e) h = absurd (below-zero (m * up e * 1) (down e) h)
+
+pub erfc-below : (v : Float) → v ≺ decimal 0 1 ≡ true → erfc v ≡ decimal 2 1 ⊖ erfc (neg v)
+unfolding erfc
+erfc-below v h = rw (h, mirrored v h)
