@@ -1,2 +1,6 @@
 pub mod Tests
 pub mod Signs
+pub mod Rounding
+pub mod Order
+pub mod Products
+pub mod Whole
