@@ -14,6 +14,7 @@ use lib.Ieee.Digits.{size-lt, size-le, size-reaches}
 use lib.Ieee.Fits.{kept-lt, and-l, and-r, down-pos, up-pos}
 use lib.Ieee.Positive.{positive}
 use Rattle.floats.specs.Wholes.{units}
+use Rattle.floats.proofs.Whole.{significand-lt, exponent-fine, value-small, places, units-are, units-lt}
 use Rattle.normal.specs.Steps.{Digits}
 
 -- ---- whole numbers: n = m * 2 ^ j, with m of at most 53 digits
@@ -140,38 +141,10 @@ module _ (n : ℕ) (P : 0 < n) (B : n < 4503599627370496) where
       let e : sh + size n ≡ 53 = let s = sh-is in let t = size-top in omega arith in
       mul-assoc n (2 ^ sh) (2 ^ size n) ∙ ap (λ (x : ℕ). n * x) (sym (pow-add 2 sh (size n)) ∙ ap (λ (x : ℕ). 2 ^ x) e)
 
--- ---- a float's units
-pub pow-le-back : (i j : ℕ) → 2 ^ i ≤ 2 ^ j → i ≤ j
-pow-le-back i j h = go (decLe i j)
-  where
-    go : Dec (i ≤ j) → i ≤ j
-    go (yes y) = y
-    go (no f) = absurd (lt-irrefl (2 ^ i) (lt-of-le-of-lt h (pow-lt (lt-of-not-le f))))
-
--- 2 ^ e is 2 ^ j units
-abbrev pub placesOf : ℤ → ℕ
-placesOf (pos i) = i + 1074
-placesOf (negsuc i) = 1074 - suc i
-
-pub units-are : (m : ℕ) (e : ℤ) → down e ≤ 2 ^ 1074 → m * up e * 2 ^ 1074 / down e ≡ m * 2 ^ placesOf e
-units-are m (pos i) h = div-one (m * 2 ^ i * 2 ^ 1074) ∙ mul-assoc m (2 ^ i) (2 ^ 1074) ∙ ap (λ (x : ℕ). m * x) (sym (pow-add 2 i 1074))
-units-are m (negsuc i) h =
-    let l = pow-le-back (suc i) 1074 h in
-    let e : 1074 - suc i + suc i ≡ 1074 = omega arith in
-    ap (λ (x : ℕ). x / 2 ^ suc i)
-    (ap (λ (x : ℕ). x * 2 ^ 1074) (mul-one m) ∙ ap (λ (x : ℕ). m * 2 ^ x) (sym e) ∙ ap (λ (x : ℕ). m * x) (pow-add 2 (1074 - suc i) (suc i)) ∙ sym (mul-assoc m (2 ^ (1074 - suc i)) (2 ^ suc i)))
-    ∙ shl-shr (m * 2 ^ (1074 - suc i)) (suc i)
-
-pub units-lt : (m : ℕ) (e : ℤ) → m * up e < 2 ^ 1024 * down e → m * up e * 2 ^ 1074 / down e < 2 ^ 2098
-units-lt m e h =
-    lt-of-mul-lt-mul-right (down e)
-    (lt-of-le-of-lt (div-mul-le-self (m * up e * 2 ^ 1074) (down e))
-    (lt-of-lt-of-le (mul-lt-mul-of-pos-right h (pow-pos 1074)) (le-of-eq (mul-right-comm (2 ^ 1024) (down e) (2 ^ 1074)))))
-
 -- ---- a positive float's pattern
 module _ (v : Float) (F : T (fits binary64 v)) (P : T (positive v)) where
   pub shape : (m : ℕ) × (j : ℕ) × (0 < m) × (m < 9007199254740992) × (units v ≡ m * 2 ^ j) × (toBits binary64 v ≡ (size (m * 2 ^ j) - 53) * 4503599627370496 + m * 2 ^ j / 2 ^ (size (m * 2 ^ j) - 53))
-  unfolding fits toBits
+  unfolding toBits
   shape = go v F P
     where
       go : (v : Float) → T (fits binary64 v) → T (positive v)
@@ -181,22 +154,17 @@ module _ (v : Float) (F : T (fits binary64 v)) (P : T (positive v)) where
       go (fin true m e) f p = absurd p
       go (fin false zero e) f p = absurd p
       go (fin false (suc m) e) f p =
-          let A = eqb (suc m % 2) 1 in
-          let B = ltb (suc m) (2 ^ 53) in
-          let C = leb (down e) (2 ^ 1074) in
-          let D = ltb (suc m * up e) (2 ^ 1024 * down e) in
-          let u = units-are (suc m) e (leb→le (down e) (2 ^ 1074) (and-r (A && B) C (and-l (A && B && C) D f))) in (
+          let u = units-are (suc m) e (exponent-fine false m e f) in (
             suc m,
-            placesOf e,
+            places e,
             ltb→lt 0 (suc m) p,
-            ltb→lt (suc m) (2 ^ 53) (and-r A B (and-l (A && B) C (and-l (A && B && C) D f))),
+            significand-lt false m e f,
             u,
             ap (λ (n : ℕ). 0 + (size n - 53) * 4503599627370496 + n / 2 ^ (size n - 53)) u
-                ∙ ap (λ (x : ℕ). x + suc m * 2 ^ placesOf e / 2 ^ (size (suc m * 2 ^ placesOf e) - 53)) (zero-add ((size (suc m * 2 ^ placesOf e) - 53) * 4503599627370496)),
+                ∙ ap (λ (x : ℕ). x + suc m * 2 ^ places e / 2 ^ (size (suc m * 2 ^ places e) - 53)) (zero-add ((size (suc m * 2 ^ places e) - 53) * 4503599627370496)),
           )
 
   pub places-lt : size (units v) < 2099
-  unfolding fits
   places-lt = go v F P
     where
       go : (v : Float) → T (fits binary64 v) → T (positive v) → size (units v) < 2099
@@ -205,11 +173,7 @@ module _ (v : Float) (F : T (fits binary64 v)) (P : T (positive v)) where
       go (fin true m e) f p = absurd p
       go (fin false zero e) f p = absurd p
       go (fin false (suc m) e) f p =
-          let A = eqb (suc m % 2) 1 in
-          let B = ltb (suc m) (2 ^ 53) in
-          let C = leb (down e) (2 ^ 1074) in
-          let D = ltb (suc m * up e) (2 ^ 1024 * down e) in
-          let l = size-le (units (fin false (suc m) e)) 2098 (units-lt (suc m) e (ltb→lt (suc m * up e) (2 ^ 1024 * down e) (and-r (A && B && C) D f))) in
+          let l = size-le (units (fin false (suc m) e)) 2098 (units-lt (suc m) e (value-small false m e f)) in
           omega arith
 
   abbrev b' : ℕ

@@ -2,6 +2,7 @@ pub mod Table
 pub mod Pattern
 pub mod Powers
 pub mod Floors
+pub mod Largest
 pub mod Scaled
 pub mod Digits
 pub mod Mantissas
@@ -9,3 +10,4 @@ pub mod Squares
 pub mod Nearest
 pub mod Examples
 pub mod Mirror
+pub mod Reciprocals

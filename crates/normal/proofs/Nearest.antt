@@ -15,9 +15,10 @@ use lib.Ieee.Fits.{and-l, and-r, down-pos, odd-fits}
 use lib.Ieee.Bits.{ofBits-toBits}
 use lib.Ieee.Positive.{positive, positive-of-value}
 use Rattle.floats.specs.Wholes.{units}
+use Rattle.floats.proofs.Whole.{significand-lt, exponent-fine, places, units-are}
 use Rattle.normal.specs.Root.{notNegative, NearestRoot, sqrt, rootOfUnits, halfRoot, wholeRoot}
 use Rattle.normal.specs.Steps.{Digits}
-use Rattle.normal.proofs.Digits.{units-are, placesOf, low-digits, high-digits, places-lt}
+use Rattle.normal.proofs.Digits.{low-digits, high-digits, places-lt}
 use Rattle.normal.proofs.Squares.{IsRoot, wholeRoot-is, q-ge, q-lt, under-even, under-odd, under-even-mul, under-odd-mul}
 
 -- ---- a float's units
@@ -30,20 +31,10 @@ pub odd-units : (r k : ℕ) → units (odd 53 false r k 1074) ≡ r * 2 ^ k
 odd-units r k = value-units (odd 53 false r k 1074) (r * 2 ^ k) (odd-sign 53 false r k 1074)
 
 pub fit-units : (y : Float) → T (fits binary64 y) → T (notNegative y) → (m : ℕ) × (j : ℕ) × (m < 9007199254740992) × (units y ≡ m * 2 ^ j)
-unfolding fits
 fit-units nan f p = absurd p
 fit-units (inf s) f p = absurd p
 fit-units (fin s zero e) f p = (0, 0, omega arith, ap (λ (n : ℕ). n * 2 ^ 1074 / down e) (zero-mul (up e)) ∙ div-eq-of-lt (down-pos e))
-fit-units (fin s (suc m) e) f p =
-    let A = eqb (suc m % 2) 1 in
-    let B = ltb (suc m) (2 ^ 53) in
-    let C = leb (down e) (2 ^ 1074) in
-    let D = ltb (suc m * up e) (2 ^ 1024 * down e) in (
-      suc m,
-      placesOf e,
-      ltb→lt (suc m) (2 ^ 53) (and-r A B (and-l (A && B) C (and-l (A && B && C) D f))),
-      units-are (suc m) e (leb→le (down e) (2 ^ 1074) (and-r (A && B) C (and-l (A && B && C) D f))),
-    )
+fit-units (fin s (suc m) e) f p = (suc m, places e, significand-lt s m e f, units-are (suc m) e (exponent-fine s m e f))
 
 -- ---- whole numbers: r of 53 digits, times 2 ^ k, and m of at most 53, times 2 ^ j
 coarse : (m j k : ℕ) → k ≤ j → m * 2 ^ j ≡ m * 2 ^ (j - k) * 2 ^ k
