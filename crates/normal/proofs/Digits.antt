@@ -1,17 +1,16 @@
 -- What the pattern of a positive finite f64 says of its digits. Assumes nothing.
-use mathlib.Core.Path.{_≡_, refl, sym, ap, _∙_, subst}
-use mathlib.Core.Bool.{Bool, true, false, cond, _&&_}
+use mathlib.Core.Path.{_≡_, sym, ap, _∙_, subst}
+use mathlib.Core.Bool.{true, false}
 use Prim.Native.Nat.{ℕ, zero, suc, _+_, _-_, _*_, _/_, _%_, _^_, _≤_, _<_}
 use native.Mathlib.Omega.{arith}
-use native.Mathlib.Nat.{mul-comm, mul-assoc, mul-one, add-zero, zero-add, div-one, le-trans, le-of-eq, le-of-lt, lt-of-lt-of-le, lt-of-le-of-lt, lt-irrefl, lt-of-not-le, le-of-mul-le-mul-right, mul-le-mul-right, mul-pos, le-refl, lt-of-mul-lt-mul-right, div-mul-le-self, mul-lt-mul-of-pos-right, mul-right-comm}
+use native.Mathlib.Nat.{mul-assoc, zero-add, div-one, le-trans, le-of-eq, lt-of-lt-of-le, lt-irrefl, lt-of-not-le, le-of-mul-le-mul-right, mul-le-mul-right, mul-pos}
 use native.Mathlib.Decide.{decLe}
-use lib.Dec.{T, leb, ltb, eqb, ltb→lt, leb→le}
-use lib.IntN.{ℤ, pos, negsuc}
-use lib.Pow.{pow-add, pow-pos, pow-mono, pow-lt, shl-lt, shl-shr, shl-exact}
+use lib.Dec.{T, ltb→lt}
+use lib.Pow.{pow-add, pow-pos, pow-mono, shl-lt, shl-shr, shl-exact}
 use lib.Count.{leadingZeros, leading-top}
-use lib.Ieee.{Float, nan, inf, fin, binary64, up, down, size, minus, toBits, fits}
+use lib.Ieee.{Float, nan, inf, fin, binary64, size, toBits, fits}
 use lib.Ieee.Digits.{size-lt, size-le, size-reaches}
-use lib.Ieee.Fits.{kept-lt, and-l, and-r, down-pos, up-pos}
+use lib.Ieee.Fits.{kept-lt}
 use lib.Ieee.Positive.{positive}
 use Rattle.floats.specs.Wholes.{units}
 use Rattle.floats.proofs.Whole.{significand-lt, exponent-fine, value-small, places, units-are, units-lt}
@@ -30,9 +29,6 @@ module _ (m j : ℕ) (P : 0 < m) (M : m < 9007199254740992) where
 
   abbrev w : ℕ
   w = m * 2 ^ j / 2 ^ (size (m * 2 ^ j) - 53)
-
-  n-pos : 0 < m * 2 ^ j
-  n-pos = mul-pos P (pow-pos j)
 
   k-le : size (m * 2 ^ j) - 53 ≤ j
   k-le = let h = size-le (m * 2 ^ j) (53 + j) (shl-lt 53 j M) in omega arith

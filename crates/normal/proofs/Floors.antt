@@ -1,13 +1,13 @@
 -- The floor of a float by a cut toward zero and one comparison. Assumes nothing.
 use mathlib.Core.Path.{_≡_, refl, sym, ap, _∙_, subst}
-use mathlib.Core.Bool.{Bool, true, false, cond, true≢false, _||_}
-use Prim.Native.Nat.{ℕ, zero, suc, _+_, _-_, _*_, _/_, _%_, _^_, _≤_, _<_, min}
+use mathlib.Core.Bool.{true, false, true≢false}
+use Prim.Native.Nat.{ℕ, zero, suc, _+_, _-_, _*_, _/_, _^_, _≤_, _<_, min}
 use native.Mathlib.Omega.{arith}
 use native.Mathlib.Numerals.{add-one}
-use native.Mathlib.Nat.{add-mul, one-mul, zero-mul, add-zero, mul-comm, mul-assoc, mul-right-comm, mul-one, mul-le-mul-right, mul-lt-mul-of-pos-right, lt-of-mul-lt-mul-right, le-of-mul-le-mul-right, div-eq-of-lt-le, div-mul-le-self, div-lt-iff-lt-mul, lt-mul-div-succ}
-use lib.Dec.{T, ltb, leb, ltb→lt, lt→ltb}
-use lib.IntN.{ℤ, pos, negsuc, negℤ, _+ℤ_, _-ℤ_}
-use lib.Ieee.{Float, nan, inf, fin, binary64, up, down, lt, le, below, ofInt, toSigned, round}
+use native.Mathlib.Nat.{add-mul, one-mul, zero-mul, add-zero, mul-comm, mul-right-comm, mul-one, mul-le-mul-right, lt-of-mul-lt-mul-right, le-of-mul-le-mul-right, div-eq-of-lt-le, div-mul-le-self, div-lt-iff-lt-mul, lt-mul-div-succ}
+use lib.Dec.{T, lt→ltb, le→leb}
+use lib.IntN.{ℤ, pos, negsuc, negℤ, _-ℤ_}
+use lib.Ieee.{Float, nan, inf, fin, binary64, up, down, lt, le, ofInt, inFloat, toSigned, round}
 use lib.Signed.{mag}
 use mir.Syntax.{w64}
 use mir.Val.{SFits}
@@ -170,6 +170,12 @@ cut-fits t s = let l = cut-mag t s in record { sfits = omega arith }
 
 pub cut-less-fits : (t : Float) → Small t → SFits w64 (cutOf t -ℤ pos 1)
 cut-less-fits t s = let l = less-one (cutOf t) (cut-mag t s) in record { sfits = omega arith }
+
+-- a whole number of few digits is a float
+pub few-in-float : (z : ℤ) → mag z < 8192 → T (inFloat binary64 z)
+unfolding inFloat
+few-in-float (pos n) h = le→leb n (2 ^ 53) (omega arith)
+few-in-float (negsuc n) h = lt→ltb n (2 ^ 53) (omega arith)
 
 pub small-low : (t : Float) → Small t → T (le (fin true 1 (pos 63)) t)
 unfolding le lt

@@ -1,19 +1,18 @@
 -- `floor` is the largest whole number not above: both over 2^1074, the comparison is one of whole numbers. Assumes nothing.
-use mathlib.Core.Path.{_≡_, refl, sym, ap, _∙_, subst}
-use mathlib.Core.Bool.{Bool, true, false, true≢false}
+use mathlib.Core.Path.{_≡_, refl, sym, _∙_, subst}
+use mathlib.Core.Bool.{true, false}
 use Prim.Native.Nat.{ℕ, zero, suc, _+_, _-_, _*_, _/_, _^_, _≤_, _<_}
 use native.Mathlib.Omega.{arith}
-use native.Mathlib.Nat.{zero-mul, mul-right-comm, mul-comm, add-mul, one-mul, mul-pos, zero-lt-suc, le-trans, le-of-eq, lt-irrefl, lt-of-lt-of-le, mul-le-mul-right, le-of-mul-le-mul-right, div-mul-le-self, lt-mul-div-succ, le-div-iff-mul-le, div-lt-iff-lt-mul, div-le-of-le-mul}
-use lib.Dec.{T, leb, leb→le, le→leb}
+use native.Mathlib.Nat.{zero-mul, mul-right-comm, mul-comm, add-mul, one-mul, mul-pos, zero-lt-suc, le-trans, le-of-eq, lt-irrefl, mul-le-mul-right, le-of-mul-le-mul-right, div-mul-le-self, lt-mul-div-succ, le-div-iff-mul-le, div-lt-iff-lt-mul, div-le-of-le-mul}
+use lib.Dec.{T, leb→le, le→leb}
 use lib.IntN.{ℤ, pos, negsuc, negℤ, _*ℤ_}
 use lib.Signed.{_≤ℤ_, leZ-yes}
 use lib.Pow.{pow-pos}
 use lib.Ieee.{Float, nan, inf, fin, binary64, up, down, fits}
 use lib.Ieee.Fits.{down-pos}
 use Rattle.floats.specs.Values.{finite}
-use Rattle.floats.specs.Wholes.{units, whole}
 use Rattle.floats.proofs.Whole.{units-exact}
-use Rattle.normal.specs.Exp.{LargestNotAbove, notAbove, floor}
+use Rattle.normal.specs.Exp.{LargestNotAbove, floor}
 
 -- ---- a / d against whole numbers, both times P
 module _ (a d P : ℕ) (D : 0 < d) (Q : 0 < P) where

@@ -7,6 +7,7 @@ pub mod Scaled
 pub mod Digits
 pub mod Mantissas
 pub mod Squares
+pub mod Neighbours
 pub mod Nearest
 pub mod Examples
 pub mod Mirror

@@ -1,20 +1,19 @@
 -- The m in [1, 2) and the e of v = m * 2 ^ e, from v's digits. Assumes nothing.
 use mathlib.Core.Path.{_≡_, refl, sym, ap, _∙_, subst}
-use mathlib.Core.Bool.{Bool, true, false, _&&_}
+use mathlib.Core.Bool.{true, false, _&&_}
 use Prim.Native.Nat.{ℕ, zero, suc, _+_, _-_, _*_, _/_, _%_, _^_, _≤_, _<_}
 use native.Mathlib.Omega.{arith}
-use native.Mathlib.Nat.{mul-comm, mul-assoc, mul-right-comm, mul-one, zero-add, le-trans, le-of-eq, lt-of-lt-of-le, lt-of-le-of-lt, lt-irrefl, lt-of-not-le, mul-le-mul-right, eq-of-mul-eq-mul-right, mul-lt-mul-of-pos-right, one-mul, div-one, suc-add}
+use native.Mathlib.Nat.{mul-assoc, mul-right-comm, mul-one, le-trans, le-of-eq, lt-of-lt-of-le, lt-irrefl, lt-of-not-le, mul-le-mul-right, eq-of-mul-eq-mul-right, suc-add}
 use native.Mathlib.Decide.{decLe}
-use lib.Dec.{T, leb, ltb, eqb, ltb→lt, leb→le, lt→ltb, le→leb, lit≤, lit<}
+use lib.Dec.{T, leb, ltb, eqb, lt→ltb, le→leb}
 use lib.IntN.{ℤ, pos, negsuc, negℤ, _+ℤ_, _-ℤ_}
-use lib.Pow.{pow-add, pow-pos, pow-mono, pow-lt, shl-lt, shl-shr}
+use lib.Pow.{pow-add, pow-pos, pow-mono, shl-lt, shl-shr}
 use lib.Ieee.{Float, nan, inf, fin, binary64, up, down, size, toBits, ofBits, fits}
 use lib.Ieee.Digits.{size-lt, size-le, size-reaches}
 use lib.Ieee.Bits.{ofBits-toBits}
-use lib.Ieee.Fits.{and-i, and-l, and-r}
+use lib.Ieee.Fits.{and-i}
 use lib.Ieee.Positive.{positive}
 use borrow.Author.Tests.{lt-ltb, le-ltb}
-use Rattle.floats.specs.Wholes.{units}
 use Rattle.normal.specs.Ln.{TakenApart, mantissa, exponent}
 use Rattle.normal.specs.Steps.{Digits}
 use Rattle.floats.proofs.Whole.{significand-odd, significand-lt, exponent-fine, places, units-are, pow-le-back}

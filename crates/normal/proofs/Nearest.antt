@@ -1,73 +1,25 @@
--- The square root is the nearest f64, by whole-number squares. Assumes nothing.
+-- The square root is the nearest f64, by whole-number squares, and no other f64 is. Half the root of a number with 106 to 108 digits is rounded, and
+-- the middles to the neighbours are odd halves, whose squares are no whole numbers under the root. Assumes nothing.
 use mathlib.Core.Path.{_≡_, refl, sym, ap, _∙_, subst}
-use mathlib.Core.Bool.{Bool, true, false, not, _&&_}
+use mathlib.Core.Bool.{true, false}
 use mathlib.Core.Logic.{_⊎_, inl, inr}
 use Prim.Native.Nat.{ℕ, zero, suc, _+_, _-_, _*_, _/_, _%_, _^_, _≤_, _<_}
 use native.Mathlib.Omega.{arith}
-use native.Mathlib.Nat.{mul-comm, mul-assoc, mul-left-comm, mul-right-comm, mul-one, zero-mul, one-mul, add-mul, le-trans, le-of-eq, le-of-lt, lt-of-lt-of-le, lt-of-le-of-lt, lt-irrefl, lt-of-not-le, le-antisymm, add-comm, mul-le-mul, mul-le-mul-right, mul-lt-mul-of-pos-right, lt-of-mul-lt-mul-right, mul-pos, mul-div-cancel, div-eq-of-lt, eq-or-lt-of-le, mod-lt}
+use native.Mathlib.Nat.{mul-comm, mul-assoc, mul-left-comm, one-mul, add-mul, le-trans, le-of-eq, le-of-lt, lt-of-lt-of-le, lt-of-le-of-lt, lt-irrefl, lt-of-not-le, le-antisymm, add-comm, mul-le-mul, mul-le-mul-right, mul-lt-mul-of-pos-right, mul-pos, eq-or-lt-of-le, mod-lt}
 use native.Mathlib.Decide.{decLe}
-use lib.Dec.{T, leb, ltb, eqb, ltb→lt, leb→le}
-use lib.IntN.{ℤ, pos, negsuc}
+use lib.Dec.{T}
 use lib.Pow.{pow-add, pow-pos, pow-mono, shl-lt}
-use lib.Ieee.{Float, nan, inf, fin, binary64, up, down, odd, fits, size, toBits, ofBits}
-use lib.Ieee.Exact.{HasValue, odd-sign}
-use lib.Ieee.Fits.{and-l, and-r, down-pos, odd-fits}
-use lib.Ieee.Bits.{ofBits-toBits}
+use lib.Ieee.{Float, nan, inf, fin, binary64, odd, fits, size, toBits}
+use lib.Ieee.Exact.{odd-sign}
+use lib.Ieee.Fits.{odd-fits}
 use lib.Ieee.Positive.{positive, positive-of-value}
 use Rattle.floats.specs.Wholes.{units}
-use Rattle.floats.proofs.Whole.{significand-lt, exponent-fine, places, units-are}
-use Rattle.normal.specs.Root.{notNegative, NearestRoot, sqrt, rootOfUnits, halfRoot, wholeRoot}
+use Rattle.floats.proofs.Whole.{places}
+use Rattle.normal.specs.Root.{NearestRoot, sqrt, rootOfUnits, halfRoot, wholeRoot}
 use Rattle.normal.specs.Steps.{Digits}
 use Rattle.normal.proofs.Digits.{low-digits, high-digits, places-lt}
 use Rattle.normal.proofs.Squares.{IsRoot, wholeRoot-is, q-ge, q-lt, under-even, under-odd, under-even-mul, under-odd-mul}
-
--- ---- a float's units
-value-units : (x : Float) (a : ℕ) → HasValue x false a (2 ^ 1074) → units x ≡ a
-value-units nan a h = absurd h
-value-units (inf s) a h = absurd h
-value-units (fin s m e) a h = ap (λ (n : ℕ). n / down e) (h .1) ∙ mul-div-cancel a (down-pos e)
-
-pub odd-units : (r k : ℕ) → units (odd 53 false r k 1074) ≡ r * 2 ^ k
-odd-units r k = value-units (odd 53 false r k 1074) (r * 2 ^ k) (odd-sign 53 false r k 1074)
-
-pub fit-units : (y : Float) → T (fits binary64 y) → T (notNegative y) → (m : ℕ) × (j : ℕ) × (m < 9007199254740992) × (units y ≡ m * 2 ^ j)
-fit-units nan f p = absurd p
-fit-units (inf s) f p = absurd p
-fit-units (fin s zero e) f p = (0, 0, omega arith, ap (λ (n : ℕ). n * 2 ^ 1074 / down e) (zero-mul (up e)) ∙ div-eq-of-lt (down-pos e))
-fit-units (fin s (suc m) e) f p = (suc m, places e, significand-lt s m e f, units-are (suc m) e (exponent-fine s m e f))
-
--- ---- whole numbers: r of 53 digits, times 2 ^ k, and m of at most 53, times 2 ^ j
-coarse : (m j k : ℕ) → k ≤ j → m * 2 ^ j ≡ m * 2 ^ (j - k) * 2 ^ k
-coarse m j k h =
-    let e : j ≡ j - k + k = omega arith in
-    ap (λ (x : ℕ). m * 2 ^ x) e ∙ ap (λ (x : ℕ). m * x) (pow-add 2 (j - k) k) ∙ sym (mul-assoc m (2 ^ (j - k)) (2 ^ k))
-
-fine : (m j k : ℕ) → m < 9007199254740992 → j < k → m * 2 ^ j < 4503599627370496 * 2 ^ k
-fine m j k M h = lt-of-lt-of-le (shl-lt 53 j M) (le-trans (pow-mono {i = 53 + j} {j = 52 + k} (omega arith)) (le-of-eq (pow-add 2 52 k)))
-
-pub next-up : (r k m j : ℕ) → 4503599627370496 ≤ r → m < 9007199254740992 → r * 2 ^ k < m * 2 ^ j → (r + 1) * 2 ^ k ≤ m * 2 ^ j
-next-up r k m j R M h = go (decLe k j)
-  where
-    go : Dec (k ≤ j) → (r + 1) * 2 ^ k ≤ m * 2 ^ j
-    go (yes y) =
-        let e = coarse m j k y in
-        let l = lt-of-mul-lt-mul-right (2 ^ k) {m = r} {n = m * 2 ^ (j - k)} (subst (λ (x : ℕ). r * 2 ^ k < x) e h) in
-        le-trans (mul-le-mul-right (2 ^ k) (let g : r + 1 ≤ m * 2 ^ (j - k) = omega arith in g)) (le-of-eq (sym e))
-    go (no f) = absurd (lt-irrefl (r * 2 ^ k) (lt-of-lt-of-le h (le-trans (le-of-lt (fine m j k M (lt-of-not-le f))) (mul-le-mul-right (2 ^ k) R))))
-
--- the next below is a step down, or r is a power of two
-pub next-down : (r k m j : ℕ) → 4503599627370496 < r → m < 9007199254740992 → m * 2 ^ j < r * 2 ^ k → m * 2 ^ j + 2 ^ k ≤ r * 2 ^ k
-next-down r k m j R M h = go (decLe k j)
-  where
-    step : (a : ℕ) → a < r → a * 2 ^ k + 2 ^ k ≤ r * 2 ^ k
-    step a l = le-trans (le-of-eq (let e : a * 2 ^ k + 2 ^ k ≡ (a + 1) * 2 ^ k = omega arith in e)) (mul-le-mul-right (2 ^ k) (let g : a + 1 ≤ r = omega arith in g))
-
-    go : Dec (k ≤ j) → m * 2 ^ j + 2 ^ k ≤ r * 2 ^ k
-    go (yes y) =
-        let e = coarse m j k y in
-        let l = lt-of-mul-lt-mul-right (2 ^ k) {m = m * 2 ^ (j - k)} {n = r} (subst (λ (x : ℕ). x < r * 2 ^ k) e h) in
-        subst (λ (x : ℕ). x + 2 ^ k ≤ r * 2 ^ k) (sym e) (step (m * 2 ^ (j - k)) l)
-    go (no f) = let l = fine m j k M (lt-of-not-le f) in let g = step 4503599627370496 R in omega arith
+use Rattle.normal.proofs.Neighbours.{odd-units, fit-units, next-up, next-down, same-units, positive-not-negative}
 
 -- ---- the squares: N is M * 4 ^ k, with M a multiple of 4 and q its root
 module _ (x q : ℕ) (a : q * q ≤ 4 * x) (b : 4 * x < (q + 1) * (q + 1)) where
@@ -231,29 +183,6 @@ module _ (v : Float) (F : T (fits binary64 v)) (P : T (positive v)) where
       under-lt t u = let l = under-hi t u in omega arith
 
 -- ---- at most one f64 is the nearest
--- the pattern of a float above 0 is read off its units
-abbrev patternOf : ℕ → ℕ
-patternOf n = 0 + (size n - 53) * 4503599627370496 + n / 2 ^ (size n - 53)
-
-pattern-is : (x : Float) → T (positive x) → toBits binary64 x ≡ patternOf (units x)
-unfolding toBits
-pattern-is nan p = absurd p
-pattern-is (inf s) p = absurd p
-pattern-is (fin true m e) p = absurd p
-pattern-is (fin false m e) p = refl
-
-pub same-units : (x y : Float) → T (fits binary64 x) → T (fits binary64 y) → T (positive x) → T (positive y) → units x ≡ units y → x ≡ y
-same-units x y fx fy px py e =
-    sym (ofBits-toBits binary64 x fx)
-    ∙ ap (ofBits binary64) (pattern-is x px ∙ ap patternOf e ∙ sym (pattern-is y py))
-    ∙ ofBits-toBits binary64 y fy
-
-pub positive-not-negative : (x : Float) → T (positive x) → T (notNegative x)
-positive-not-negative nan p = p
-positive-not-negative (inf s) p = p
-positive-not-negative (fin true m e) p = p
-positive-not-negative (fin false m e) p = tt
-
 pub root-unique : (v r s : Float) → NearestRoot v r → NearestRoot v s → r ≡ s
 root-unique v r s R S = same-units r s (R .held) (S .held) (R .sign) (S .sign) (le-antisymm (at-most R S) (at-most S R))
   where

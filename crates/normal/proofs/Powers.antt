@@ -1,13 +1,13 @@
 -- 2 ^ k, for k from -1022 to 1023, as the pattern whose field is k + 1023. Assumes nothing.
-use mathlib.Core.Path.{_≡_, refl, sym, ap, _∙_, subst}
-use mathlib.Core.Bool.{Bool, true, false, not}
-use Prim.Native.Nat.{ℕ, zero, suc, _+_, _-_, _*_, _/_, _%_, _^_, _≤_, _<_}
+use mathlib.Core.Path.{_≡_, refl, sym, ap, _∙_}
+use mathlib.Core.Bool.{false, not}
+use Prim.Native.Nat.{ℕ, suc, _+_, _-_, _*_, _<_}
 use native.Mathlib.Omega.{arith}
 use native.Mathlib.Nat.{add-zero}
-use lib.Dec.{T, eqb, leb, ltb, ltb→lt}
+use lib.Dec.{T, ltb→lt}
 use lib.IntN.{ℤ, pos, negsuc, _+ℤ_}
 use lib.Count.{trailingZeros}
-use lib.Ieee.{Float, fin, binary64, ofBits, ofFields, odd, nanBits, minus, isNan}
+use lib.Ieee.{fin, binary64, ofBits, odd, nanBits, minus, isNan}
 use lib.Ieee.Bits.{nanBits-is}
 use borrow.Author.Tests.{lt-leb, le-leb, le-ltb}
 use Rattle.normal.specs.Steps.{inExponent}

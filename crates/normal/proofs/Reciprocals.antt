@@ -5,23 +5,21 @@ use mathlib.Core.Bool.{Bool, true, false, not, _&&_, cond}
 use mathlib.Core.Logic.{_⊎_, inl, inr}
 use Prim.Native.Nat.{ℕ, zero, suc, _+_, _-_, _*_, _/_, _^_, _≤_, _<_}
 use native.Mathlib.Omega.{arith}
-use native.Mathlib.Nat.{add-zero, add-mul, mul-assoc, zero-mul, zero-div, mul-pos, le-trans, le-of-eq, le-of-lt, lt-irrefl, lt-of-lt-of-le, lt-of-le-of-lt, lt-of-not-le, mul-le-mul-right, mul-lt-mul-of-pos-right, eq-or-lt-of-le}
+use native.Mathlib.Nat.{one-mul, add-mul, mul-assoc, zero-mul, zero-div, mul-pos, le-trans, le-of-eq, lt-irrefl, lt-of-lt-of-le, lt-of-le-of-lt, lt-of-not-le, mul-le-mul-right, mul-lt-mul-of-pos-right, eq-or-lt-of-le}
 use native.Mathlib.Decide.{decLe}
 use borrow.Author.Tests.{ltb-true, ltb-false}
 use lib.Dec.{T, leb, ltb, eqb, leb→le, ltb→lt, eqb→eq, nleb→lt, lt→ltb}
-use lib.IntN.{ℤ, pos, negsuc, negℤ, natAbs, _*ℤ_, _-ℤ_}
+use lib.IntN.{ℤ, pos, negsuc, negℤ, natAbs, _-ℤ_}
 use lib.Pow.{pow-add, pow-pos, pow-mono}
 use lib.Ieee.{Float, nan, inf, fin, binary64, up, down, size, fits, round}
 use lib.Ieee.Fits.{and-l, and-r, round-fits}
 use lib.Ieee.Positive.{positive}
-use Rattle.floats.specs.Operators.{decimal}
 use Rattle.floats.specs.Values.{finite}
-use Rattle.floats.specs.Wholes.{units, whole}
+use Rattle.floats.specs.Wholes.{units}
 use Rattle.normal.specs.Tables.{factorial, E, L, lastE, lastL, miss, NearestReciprocal, Rules}
-use Rattle.normal.specs.Root.{notNegative}
 use Rattle.normal.proofs.Table.{every, at}
 use Rattle.normal.proofs.Largest.{neg-mul}
-use Rattle.normal.proofs.Nearest.{fit-units, next-up, next-down, same-units}
+use Rattle.normal.proofs.Neighbours.{fit-units, next-up, next-down, same-units}
 
 -- ---- the test: x has the 53 digits r, times 2^k units
 -- how far below x its lower neighbour is
@@ -40,7 +38,7 @@ step-le : (r k : ℕ) → 4503599627370496 ≤ r → stepDown r k ≤ r * 2 ^ k
 step-le r k R = go (leb r 4503599627370496)
   where
     own : 2 ^ k ≤ r * 2 ^ k
-    own = let p = pow-pos k in le-trans (le-of-eq (sym (native.Mathlib.Nat.one-mul (2 ^ k)))) (mul-le-mul-right (2 ^ k) (let g : 1 ≤ r = omega arith in g))
+    own = let p = pow-pos k in le-trans (le-of-eq (sym (one-mul (2 ^ k)))) (mul-le-mul-right (2 ^ k) (let g : 1 ≤ r = omega arith in g))
 
     go : (b : Bool) → cond b (2 ^ (k - 1)) (2 ^ k) ≤ r * 2 ^ k
     go true = le-trans (pow-mono {i = k - 1} {j = k} (omega arith)) own
@@ -89,9 +87,6 @@ nearer-below a b p h k = omega arith
 nearer-negative : (a b p : ℕ) → 0 < a → a < 2 * p → (a - p) + (p - a) < b + p
 nearer-negative a b p h k = omega arith
 
-double : (n : ℕ) → 2 * n ≡ n + n
-double n = omega arith
-
 module _ (d r k P : ℕ) (D : 0 < d) (R : 4503599627370496 ≤ r) (up-mid : 2 * P < (2 * (r * 2 ^ k) + 2 ^ k) * d) (down-mid : (2 * (r * 2 ^ k) - stepDown r k) * d < 2 * P) where
   abbrev n : ℕ
   n = r * 2 ^ k
@@ -102,7 +97,7 @@ module _ (d r k P : ℕ) (D : 0 < d) (R : 4503599627370496 ≤ r) (up-mid : 2 * 
   miss-above : (m j : ℕ) → m < 9007199254740992 → r * 2 ^ k < m * 2 ^ j → (n * d - P) + (P - n * d) < (m * 2 ^ j * d - P) + (P - m * 2 ^ j * d)
   miss-above m j M h =
       let u = next-up r k m j R M h in
-      let e : (r + 1) * 2 ^ k ≡ r * 2 ^ k + 2 ^ k = add-mul r 1 (2 ^ k) ∙ ap (λ (x : ℕ). r * 2 ^ k + x) (native.Mathlib.Nat.one-mul (2 ^ k)) in
+      let e : (r + 1) * 2 ^ k ≡ r * 2 ^ k + 2 ^ k = add-mul r 1 (2 ^ k) ∙ ap (λ (x : ℕ). r * 2 ^ k + x) (one-mul (2 ^ k)) in
       let l : 2 * (r * 2 ^ k) + 2 ^ k ≤ r * 2 ^ k + m * 2 ^ j = omega arith in
       nearer-above (n * d) (m * 2 ^ j * d) P (mul-lt-mul-of-pos-right h D)
       (lt-of-lt-of-le up-mid (le-trans (mul-le-mul-right d l) (le-of-eq (add-mul (r * 2 ^ k) (m * 2 ^ j) d))))

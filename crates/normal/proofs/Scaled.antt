@@ -1,19 +1,19 @@
 -- v * 1.4426950408889634 + 0.5, for v from -708 to 709, lies from -1021.5 to 1023.375. Assumes nothing.
-use mathlib.Core.Path.{_≡_, refl, sym, ap, _∙_, subst}
+use mathlib.Core.Path.{_≡_, refl, sym, ap, _∙_}
 use mathlib.Core.Bool.{Bool, true, false, cond, true≢false, _&&_, _||_}
-use Prim.Native.Nat.{ℕ, zero, suc, _+_, _-_, _*_, _/_, _%_, _^_, _≤_, _<_}
+use Prim.Native.Nat.{ℕ, zero, suc, _+_, _-_, _*_, _/_, _^_, _≤_, _<_}
 use native.Mathlib.Omega.{arith}
-use native.Mathlib.Nat.{mul-comm, mul-assoc, mul-right-comm, mul-le-mul-right, le-of-mul-le-mul-right, le-trans, le-of-eq, div-lt-iff-lt-mul, le-of-lt, lt-of-lt-of-le, mul-pos, zero-lt-suc}
-use lib.Dec.{T, ltb, leb, eqb, lit<, lit≤, ltb→lt, lt→ltb, eqb→eq}
-use lib.IntN.{ℤ, pos, negsuc, negℤ}
+use native.Mathlib.Nat.{mul-assoc, mul-right-comm, mul-le-mul-right, le-of-mul-le-mul-right, le-trans, le-of-eq, div-lt-iff-lt-mul, le-of-lt, lt-of-lt-of-le}
+use lib.Dec.{T, ltb, eqb, lit<, lit≤, ltb→lt, lt→ltb, eqb→eq}
+use lib.IntN.{ℤ, pos, negℤ}
 use lib.Ieee.{Float, nan, inf, fin, binary64, up, down, lt, le, ne, add, sum, mul, neg, round, units, odd}
 use Rattle.floats.specs.Operators.{decimal, _≺_}
 use lib.Ieee.Exact.{HasValue, round-exact}
-use lib.Ieee.Fits.{down-pos, round-is, and-l}
+use lib.Ieee.Fits.{down-pos, and-l}
 use lib.Ieee.Order.{round-mono, kept, drop}
 use lib.Pow.{shl-lt}
 use lib.Ieee.Compare.{nan-differs}
-use borrow.Author.Tests.{ltb-true, ltb-false}
+use borrow.Author.Tests.{ltb-false}
 use Rattle.normal.specs.Exp.{overflowLimit, underflowLimit, scaled, floor}
 use Rattle.normal.specs.Steps.{inExponent, Small}
 

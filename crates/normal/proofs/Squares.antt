@@ -1,13 +1,12 @@
--- The arithmetic of the root by digits. Assumes nothing.
+-- The arithmetic of the root by digits: what the loops keep, what half the root is as a pattern, and what stands under the root. Assumes nothing.
 use mathlib.Core.Path.{_≡_, refl, sym, ap, _∙_, subst}
 use mathlib.Core.Bool.{Bool, true, false, cond, not}
 use Prim.Native.Nat.{ℕ, zero, suc, _+_, _-_, _*_, _/_, _%_, _^_, _≤_, _<_}
 use native.Mathlib.Omega.{arith}
-use native.Mathlib.Nat.{mul-comm, mul-assoc, mul-one, div-one, div-eq-of-lt, div-le-self, div-lt-iff-lt-mul, le-trans, le-of-eq, lt-of-lt-of-le, lt-of-le-of-lt, lt-irrefl, lt-of-not-le, mul-le-mul, le-antisymm, le-of-suc-le-suc, mod-lt}
-use native.Mathlib.Decide.{decLe}
+use native.Mathlib.Nat.{mul-comm, mul-assoc, div-eq-of-lt, div-le-self, div-lt-iff-lt-mul, lt-of-lt-of-le, lt-of-le-of-lt, lt-irrefl, lt-of-not-le, mul-le-mul, le-antisymm, mod-lt}
 use lib.Dec.{T, leb, leb→le, nleb→lt}
-use lib.Pow.{pow-add, pow-pos, pow-mono, shl-lt, shr-shr, shl-shr}
-use lib.Ieee.{Float, fin, binary64, ofBits, odd, nanBits, isNan}
+use lib.Pow.{pow-add, pow-mono, shl-lt, shr-shr, shl-shr}
+use lib.Ieee.{binary64, ofBits, odd, nanBits, isNan}
 use lib.Ieee.Bits.{nanBits-is}
 use Rattle.normal.specs.Root.{wholeRoot, halfRoot}
 use Rattle.normal.proofs.Pattern.{ofBits-normal}
@@ -15,8 +14,8 @@ use Rattle.normal.proofs.Pattern.{ofBits-normal}
 pub root-lt : (q b : ℕ) → q * q < b * b → q < b
 root-lt q b h = lt-of-not-le (λ (g : b ≤ q). lt-irrefl (b * b) (lt-of-le-of-lt (mul-le-mul g g) h))
 
-pub none : (t : ℕ) → t < 2 ^ 54 → t / 2 ^ (2 * 27) ≡ 0
-none t h = div-eq-of-lt h
+pub all-shifted : (t : ℕ) → t < 2 ^ 54 → t / 2 ^ (2 * 27) ≡ 0
+all-shifted t h = div-eq-of-lt h
 
 pub digit : (t i : ℕ) → 0 < i → 4 * (t / 2 ^ (2 * i)) + t / 2 ^ (2 * (i - 1)) % 4 ≡ t / 2 ^ (2 * (i - 1))
 digit t i h =
@@ -118,19 +117,10 @@ module _ (n d z : ℕ) (e : d * 2 ^ z ≡ n * 2 ^ 53) where
   cut-mul c j f = whole-units ∙ ap (λ (x : ℕ). d * 2 ^ x) f ∙ ap (λ (x : ℕ). d * x) (pow-add 2 c j) ∙ sym (mul-assoc d (2 ^ c) (2 ^ j))
 
   cut : (c : ℕ) → (j : ℕ) → z + 1023 ≡ c + j → n * 2 ^ 1076 / 2 ^ j ≡ d * 2 ^ c
-  cut c j f =
-      ap (λ (x : ℕ). x / 2 ^ j) (whole-units ∙ ap (λ (x : ℕ). d * 2 ^ x) f ∙ ap (λ (x : ℕ). d * x) (pow-add 2 c j) ∙ sym (mul-assoc d (2 ^ c) (2 ^ j)))
-      ∙ shl-shr (d * 2 ^ c) j
+  cut c j f = ap (λ (x : ℕ). x / 2 ^ j) (cut-mul c j f) ∙ shl-shr (d * 2 ^ c) j
 
   pub under-even : z % 2 ≡ 0 → n * 2 ^ 1076 / 2 ^ (2 * ((z + 969) / 2)) ≡ 2 * d * 18014398509481984
   under-even h = cut 55 (2 * ((z + 969) / 2)) (omega arith) ∙ (let g : d * 36028797018963968 ≡ 2 * d * 18014398509481984 = omega arith in g)
-
-  pub under-odd : (z % 2 ≡ 0 → ⊥) → n * 2 ^ 1076 / 2 ^ (2 * ((z + 969) / 2)) ≡ d * 18014398509481984
-  under-odd h = let g : z % 2 ≡ 1 = is-one (z % 2) (mod-lt z (omega arith)) h in cut 54 (2 * ((z + 969) / 2)) (omega arith)
-    where
-      is-one : (r : ℕ) → r < 2 → (r ≡ 0 → ⊥) → r ≡ 1
-      is-one zero l f = absurd (f refl)
-      is-one (suc r) l f = omega arith
 
   odd-part : (z % 2 ≡ 0 → ⊥) → z % 2 ≡ 1
   odd-part h = go (z % 2) (mod-lt z (omega arith)) h
@@ -138,6 +128,9 @@ module _ (n d z : ℕ) (e : d * 2 ^ z ≡ n * 2 ^ 53) where
       go : (r : ℕ) → r < 2 → (r ≡ 0 → ⊥) → r ≡ 1
       go zero l f = absurd (f refl)
       go (suc r) l f = omega arith
+
+  pub under-odd : (z % 2 ≡ 0 → ⊥) → n * 2 ^ 1076 / 2 ^ (2 * ((z + 969) / 2)) ≡ d * 18014398509481984
+  under-odd h = let g = odd-part h in cut 54 (2 * ((z + 969) / 2)) (omega arith)
 
   pub under-even-mul : z % 2 ≡ 0 → n * 2 ^ 1076 ≡ 2 * d * 18014398509481984 * 2 ^ (2 * ((z + 969) / 2))
   under-even-mul h = cut-mul 55 (2 * ((z + 969) / 2)) (omega arith) ∙ ap (λ (x : ℕ). x * 2 ^ (2 * ((z + 969) / 2))) (let g : d * 36028797018963968 ≡ 2 * d * 18014398509481984 = omega arith in g)

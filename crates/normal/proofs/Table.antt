@@ -1,7 +1,7 @@
 -- A table's rule at each entry, from one test that is computed over the whole table; and a constant array's entries are those of a table where the
 -- two lists are the same, which is computed once. Assumes nothing.
-use mathlib.Core.Path.{_≡_, refl, ap, _∙_, subst, sym}
-use mathlib.Core.Bool.{Bool, true, false, _&&_}
+use mathlib.Core.Path.{_≡_, ap, _∙_, subst, sym}
+use mathlib.Core.Bool.{Bool, true, _&&_}
 use mathlib.Core.List.{List, [], _∷_}
 use Prim.Native.Nat.{ℕ, zero, suc, _+_, _<_}
 use native.Mathlib.Nat.{add-zero, zero-add, add-suc, suc-add, le-of-suc-le-suc, not-suc-le-zero}

@@ -2,7 +2,6 @@
 -- answer 1 - (1.1283791670955126 × exp(-(v×v))) × sum. From 2: c = v; for j from 60 down to 1, c = v + (j/2)/c; answer (exp(-(v×v)) ×
 -- 0.5641895835477563)/c."
 use Prim.Native.Nat.{ℕ, zero, suc, _+_, _-_, _*_, _^_}
-use mathlib.Core.Bool.{Bool, true, false}
 use lib.Ieee.{Float, neg}
 use Rattle.floats.specs.Operators.{decimal, _⊕_, _⊖_, _⊗_, _⊘_, _≺_, if_then_else_}
 use Rattle.normal.specs.Exp.{exp}

@@ -1,8 +1,8 @@
 -- Document 01, 'exp(v)': "above 709, infinity; below -708, 0.0. Else k is the largest whole number not above v × 1.4426950408889634 + 0.5;
 -- r = (v - k×H) - k×J; p starts at E[13] and for i from 12 down to 0 becomes p×r + E[i]; the answer is p × 2^k."
 use Prim.Native.Nat.{ℕ, _+_, _-_, _*_, _/_, _^_}
-use mathlib.Core.Bool.{Bool, true, false}
-use lib.IntN.{ℤ, pos, negsuc, negℤ, _*ℤ_}
+use mathlib.Core.Bool.{true, false}
+use lib.IntN.{ℤ, pos, negℤ, _*ℤ_}
 use lib.Signed.{_≤ℤ_}
 use lib.Ieee.{Float, nan, inf, fin, binary64, up, down, neg, isNan, ofInt}
 use Rattle.floats.specs.Operators.{decimal, _⊕_, _⊖_, _⊗_, _≺_, if_then_else_}

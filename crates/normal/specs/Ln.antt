@@ -2,7 +2,7 @@
 -- if m > 1.4142135623730951, halve m and add 1 to e. z = (m-1)/(m+1), w = z×z; q starts at L[10], for i from 9 down to 0 becomes q×w + L[i];
 -- answer e×H + ((2×z)×q + e×J)."
 use mathlib.Core.Path.{_≡_}
-use mathlib.Core.Bool.{Bool, true, false}
+use mathlib.Core.Bool.{true, false}
 use Prim.Native.Nat.{ℕ, zero, suc, _-_, _*_, _^_, _≤_, _<_}
 use lib.Dec.{T}
 use lib.IntN.{ℤ, pos, negℤ, _+ℤ_}

@@ -1,6 +1,6 @@
 -- Document 01, 'Square root': "correctly rounded as IEEE 754 says, stated by whole-number squares."
 use mathlib.Core.Path.{_≡_}
-use mathlib.Core.Bool.{Bool, true, false, not}
+use mathlib.Core.Bool.{Bool, false, not}
 use Prim.Native.Nat.{ℕ, zero, suc, _+_, _*_, _/_, _^_, _<_}
 use lib.Dec.{T, leb}
 use lib.Ieee.{Float, nan, inf, fin, size, odd, fits, binary64}

@@ -104,11 +104,7 @@ fn floor(t: f64) -> i64
     ensures { λ k. ⌜ k ≡ floor t ⌝ }
 {
     let q = std::num::truncating_f64_to_i64(t);
-    if t < std::num::nearest_i64_to_f64(q) {
-        q - 1
-    } else {
-        q
-    }
+    if t < (q as f64) { q - 1 } else { q }
 }
 
 // 2^k: its exponent's field is k + 1023.
@@ -132,7 +128,7 @@ pub fn exp(v: f64) -> f64
         return 0.0;
     }
     let k = floor(v * 1.4426950408889634 + 0.5);
-    let f = std::num::nearest_i64_to_f64(k);
+    let f = k as f64;
     let r = (v - f * 0.693147180369123816490) - f * 1.90821492927058770002e-10;
     horner_e(r) * two_to(k)
 }
@@ -200,11 +196,12 @@ fn taken_apart(v: f64) -> Parts
 
 // ln of m * 2^e, with m at most 1.4142135623730951.
 fn ln_at(m: f64, e: i64) -> f64
+    requires { ⌜ mag e < 5002 ⌝ }
     ensures { λ r. ⌜ r ≡ lnAt m e ⌝ }
 {
     let z = (m - 1.0) / (m + 1.0);
     let q = horner_l(z * z);
-    let f = std::num::nearest_i64_to_f64(e);
+    let f = e as f64;
     f * 0.693147180369123816490 + ((2.0 * z) * q + f * 1.90821492927058770002e-10)
 }
 

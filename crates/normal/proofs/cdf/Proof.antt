@@ -1,3 +1,4 @@
+-- `normal::cdf`: one call of `erfc`, with the literals the nearest floats by computation. Assumes nothing.
 use lib.Ieee.{ofBits, round}
 use borrow.Author.Needs.{needs}
 use Rattle.normal.proofs.cdf.Statement.{statement}

@@ -1,9 +1,9 @@
+-- `normal::erfc`: the test picks the side as the definition does. Assumes nothing.
 use Rattle.normal.specs.Erfc.{erfc}
 use lib.Ieee.{ofBits, round}
 use borrow.Author.Needs.{needs}
 use Rattle.normal.proofs.erfc.Statement.{statement}
 use Rattle.normal.proofs.erfc.Tie as tie
-use Rattle.normal.proofs.erfc_from_zero.Reads as erfc-from-zero-reads
 
 erfc-from-zero-requires : tie.Need-erfc-from-zero-requires
 erfc-from-zero-requires c κs = search needs

@@ -1,3 +1,4 @@
+-- `normal::erfc_from_zero`: the test at 2 picks series or fraction, each equal to its definition by its own contract. Assumes nothing.
 use Rattle.normal.specs.Erfc.{erfcFromZero}
 use lib.Ieee.{ofBits, round}
 use borrow.Author.Needs.{needs}

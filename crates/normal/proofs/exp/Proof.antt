@@ -1,17 +1,18 @@
--- `normal::exp` meets its contract. What `floor` and `two_to` require is in `proofs/Scaled.antt`. Assumes nothing.
+-- `normal::exp`: after the tests v × 1.4426950408889634 + 0.5 is in range (Scaled), so floor and power are defined. Assumes nothing.
 use mathlib.Core.Path.{_≡_, refl, sym, ap, _∙_, subst}
-use mathlib.Core.Bool.{Bool, true, false, true≢false}
+use mathlib.Core.Bool.{false, true≢false}
 use native.Mathlib.Omega.{arith}
 use borrow.Author.Needs.{needs}
 use lib.Dec.{T, ltb→lt}
 use lib.IntN.{ℤ, pos, negsuc}
-use lib.Ieee.{Float, nan, inf, fin, isNan, ne, lt, ofBits, neg, div, round}
+use lib.Ieee.{Float, nan, inf, fin, binary64, inFloat, isNan, ne, lt, ofBits, neg, div, round}
 use lib.Ieee.Compare.{differs-from-itself, nan-differs}
 use mir.Syntax.{w64}
 use mir.Val.{toZ, ofZ, SFits}
 use mir.ValLaws.{toZ-ofZ}
 use Rattle.normal.specs.Exp.{scaled, exp, expAt, floor}
 use Rattle.normal.specs.Steps.{inExponent}
+use Rattle.normal.proofs.Floors.{few-in-float}
 use Rattle.normal.proofs.Scaled.{InRange, in-range, range-small, range-exponent}
 use Rattle.normal.proofs.exp.Statement.{statement}
 use Rattle.normal.proofs.exp.Tie as tie
@@ -45,9 +46,6 @@ floor-requires : tie.Need-floor-requires
 unfolding ofBits round
 floor-requires c κs = range-small _ (t-range c)
 
-nearest-i64-to-f64-requires : tie.Need-nearest-i64-to-f64-requires
-nearest-i64-to-f64-requires c κs = search needs
-
 horner-e-requires : tie.Need-horner-e-requires
 horner-e-requires c κs = search needs
 
@@ -55,12 +53,19 @@ small-fits : (k : ℤ) → T (inExponent k) → SFits w64 k
 small-fits (pos n) h = let l = ltb→lt n 1024 h in record { sfits = omega arith }
 small-fits (negsuc n) h = let l = ltb→lt n 1022 h in record { sfits = omega arith }
 
+exponent-in-float : (k : ℤ) → T (inExponent k) → T (inFloat binary64 k)
+exponent-in-float (pos n) h = let l = ltb→lt n 1024 h in few-in-float (pos n) (omega arith)
+exponent-in-float (negsuc n) h = let l = ltb→lt n 1022 h in few-in-float (negsuc n) (omega arith)
+
 -- the floor, as the machine has it
 back : (c : tie.After-floor) → toZ w64 (ofZ w64 (c .floor .result)) ≡ floor (scaled (c .before .before .before .before .args .v))
 unfolding floor ofBits round
 back c =
     ap (λ (z : ℤ). toZ w64 (ofZ w64 z)) (c .floor .ensures)
     ∙ toZ-ofZ w64 (floor (scaled (c .before .before .before .before .args .v))) (small-fits _ (range-exponent _ (t-range (c .before))))
+
+int-to-float-f : tie.Need-int-to-float-f
+int-to-float-f c = rw (back (c .before)) (exponent-in-float _ (range-exponent _ (t-range (c .before .before))))
 
 two-to-requires : tie.Need-two-to-requires
 two-to-requires c κs =
@@ -78,11 +83,10 @@ returns-4 c =
       a .if3 .left,
       c .before .horner-e .ensures,
       c .two-to .ensures,
-      c .before .before .nearest-i64-to-f64 .ensures,
       back f,
     )
 
 pub exp-spec : {M : Type 1} → statement M
 exp-spec =
     tie.close
-    (tie.spec returns returns-2 returns-3 floor-requires nearest-i64-to-f64-requires horner-e-requires two-to-requires returns-4)
+    (tie.spec returns returns-2 returns-3 floor-requires int-to-float-f horner-e-requires two-to-requires returns-4)

@@ -1,15 +1,13 @@
--- `normal::floor` meets its contract (`proofs/Floors.antt`). Assumes nothing.
-use mathlib.Core.Path.{_≡_, refl, sym, ap, _∙_, subst}
-use mathlib.Core.Bool.{Bool, true, false}
-use borrow.Author.Needs.{needs}
+-- `normal::floor`: a cut toward zero is the floor, or one above it where t is below the cut (Floors). Assumes nothing.
+use mathlib.Core.Path.{_≡_, sym, ap, _∙_}
+use native.Mathlib.Omega.{arith}
 use lib.IntN.{ℤ, pos, _-ℤ_}
 use lib.Ieee.{Float, binary64, lt, ofInt, toSigned}
 use mir.Syntax.{w64}
-use mir.Val.{toZ, ofZ, SFits}
+use mir.Val.{toZ, ofZ}
 use mir.ValLaws.{toZ-ofZ}
-use Rattle.normal.specs.Exp.{floor}
 use Rattle.normal.specs.Steps.{Small}
-use Rattle.normal.proofs.Floors.{cutOf, cut-is, cut-fits, cut-less-fits, small-low, small-high, floor-above, floor-level}
+use Rattle.normal.proofs.Floors.{cutOf, cut-is, cut-mag, few-in-float, cut-fits, cut-less-fits, small-low, small-high, floor-above, floor-level}
 use Rattle.normal.proofs.floor.Statement.{statement}
 use Rattle.normal.proofs.floor.Tie as tie
 
@@ -27,8 +25,12 @@ module _ (t : Float) (s : Small t) (q : ℤ) (e : q ≡ toSigned 63 t) where
 truncating-f64-to-i64-requires : tie.Need-truncating-f64-to-i64-requires
 truncating-f64-to-i64-requires c κs = (small-low (c .args .t) (c .pre), small-high (c .args .t) (c .pre))
 
-nearest-i64-to-f64-requires : tie.Need-nearest-i64-to-f64-requires
-nearest-i64-to-f64-requires c κs = search needs
+int-to-float-if1 : tie.Need-int-to-float-if1
+int-to-float-if1 c =
+    let a = c .before .before in
+    let q = c .before .truncating-f64-to-i64 in
+    let l = cut-mag (a .args .t) (a .pre) in
+    rw (read-back (a .args .t) (a .pre) (q .result) (q .ensures)) (few-in-float (cutOf (a .args .t)) (omega arith))
 
 sub-result : tie.Need-sub-result
 sub-result c =
@@ -40,21 +42,19 @@ returns : tie.Need-returns
 returns c =
     let a = c .before .before .before in
     let q = c .before .before .truncating-f64-to-i64 in
-    let n = c .before .nearest-i64-to-f64 in
     less-back (a .args .t) (a .pre) (q .result) (q .ensures)
     ∙ floor-above (a .args .t) (a .pre)
-    (ap (lt (a .args .t)) (sym (n .ensures ∙ ap (ofInt binary64) (read-back (a .args .t) (a .pre) (q .result) (q .ensures)))) ∙ c .if1 .taken)
+    (ap (λ (z : ℤ). lt (a .args .t) (ofInt binary64 z)) (sym (read-back (a .args .t) (a .pre) (q .result) (q .ensures))) ∙ c .if1 .taken)
 
 returns-2 : tie.Need-returns-2
 returns-2 c =
     let a = c .before .before .before in
     let q = c .before .before .truncating-f64-to-i64 in
-    let n = c .before .nearest-i64-to-f64 in
     read-back (a .args .t) (a .pre) (q .result) (q .ensures)
     ∙ floor-level (a .args .t) (a .pre)
-    (ap (lt (a .args .t)) (sym (n .ensures ∙ ap (ofInt binary64) (read-back (a .args .t) (a .pre) (q .result) (q .ensures)))) ∙ c .if1 .left)
+    (ap (λ (z : ℤ). lt (a .args .t) (ofInt binary64 z)) (sym (read-back (a .args .t) (a .pre) (q .result) (q .ensures))) ∙ c .if1 .left)
 
 pub floor-spec : {M : Type 1} → statement M
 floor-spec =
     tie.close
-    (tie.spec truncating-f64-to-i64-requires nearest-i64-to-f64-requires sub-result returns returns-2)
+    (tie.spec truncating-f64-to-i64-requires int-to-float-if1 sub-result returns returns-2)

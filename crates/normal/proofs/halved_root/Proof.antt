@@ -1,5 +1,5 @@
--- `normal::halved_root` meets its contract (`proofs/Squares.antt`). Assumes nothing.
-use Prim.Native.Nat.{ℕ, _+_, _*_, _/_, _<_}
+-- `normal::halved_root`: half the root has 53 digits, so the sum of the two numbers is the pattern (Squares). Assumes nothing.
+use Prim.Native.Nat.{ℕ, _+_, _/_, _<_}
 use native.Mathlib.Omega.{arith}
 use borrow.Author.Needs.{needs}
 use Rattle.normal.proofs.Squares.{q-lt, half-bits, half-no-nan}

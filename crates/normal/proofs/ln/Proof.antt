@@ -1,16 +1,15 @@
--- `normal::ln` meets its contract: the tests are sorted in `proofs/Sorts.antt`, and the digits read in `proofs/Mantissas.antt`. Assumes nothing.
+-- `normal::ln`: the four tests leave a float above 0, whose digits and exponent `taken_apart` reads (Mantissas). Assumes nothing.
 use mathlib.Core.Path.{_≡_, refl, sym, ap, _∙_, subst}
-use mathlib.Core.Bool.{Bool, true, false, not}
-use Prim.Native.Nat.{ℕ, zero, suc, _+_, _-_, _*_, _<_, _≤_}
+use mathlib.Core.Bool.{true, false, not}
+use Prim.Native.Nat.{ℕ, zero, suc, _+_, _<_, _≤_}
 use native.Mathlib.Omega.{arith}
 use native.Mathlib.Decide.{decLe}
 use native.Mathlib.Nat.{lt-of-not-le}
-use borrow.Author.Needs.{needs}
 use borrow.Author.Tests.{lt-ltb, le-ltb}
-use lib.Dec.{T, ltb}
-use lib.IntN.{ℤ, pos, negsuc, _-ℤ_}
+use lib.Dec.{T}
+use lib.IntN.{ℤ, pos, _-ℤ_}
 use lib.Signed.{mag}
-use lib.Ieee.{Float, nan, inf, fin, binary64, fits, isNan, nanBits, ofBits, div, neg, lt, eq, round}
+use lib.Ieee.{Float, nan, inf, fin, binary64, fits, isNan, ofBits, div, neg, round}
 use lib.Ieee.Bits.{nanBits-is}
 use lib.Ieee.Compare.{differs-from-itself}
 use lib.Ieee.Positive.{positive}
@@ -19,7 +18,6 @@ use mir.Val.{toZ, ofZ, SFits}
 use mir.ValLaws.{toZ-ofZ}
 use Rattle.floats.proofs.Signs.{Negative, Zero, is-negative, is-zero, is-infinity, is-positive}
 use Rattle.normal.specs.Ln.{ln, lnFrom, mantissa, exponent}
-use Rattle.normal.specs.Steps.{Digits}
 use Rattle.normal.proofs.Mantissas.{mant-is, expo-is}
 use Rattle.normal.proofs.ln.Statement.{statement}
 use Rattle.normal.proofs.ln.Tie as tie

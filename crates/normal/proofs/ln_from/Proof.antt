@@ -1,9 +1,8 @@
--- `normal::ln_from` meets its contract. Assumes nothing.
-use mathlib.Core.Path.{_≡_, refl, sym, ap, _∙_, subst}
-use Prim.Native.Nat.{ℕ, zero, suc, _+_, _<_}
+-- `normal::ln_from`: the test picks as the definition does, and e + 1 does not wrap. Assumes nothing.
+use mathlib.Core.Path.{_≡_, ap, _∙_}
+use Prim.Native.Nat.{zero, suc, _<_}
 use native.Mathlib.Omega.{arith}
-use borrow.Author.Needs.{needs}
-use borrow.Author.Tests.{lt-ltb, le-ltb}
+use borrow.Author.Tests.{lt-ltb}
 use lib.IntN.{ℤ, pos, negsuc, _+ℤ_}
 use lib.Signed.{mag}
 use lib.Ieee.{ofBits, round, lt}
@@ -14,10 +13,13 @@ use Rattle.normal.specs.Ln.{lnFrom}
 use Rattle.normal.proofs.ln_from.Statement.{statement}
 use Rattle.normal.proofs.ln_from.Tie as tie
 
+one-more-mag : (e : ℤ) → mag e < 5000 → mag (e +ℤ pos 1) < 5002
+one-more-mag (pos n) h = omega arith
+one-more-mag (negsuc zero) h = omega arith
+one-more-mag (negsuc (suc n)) h = rw (lt-ltb 1 (suc (suc n)) (omega arith)) (omega arith)
+
 one-more : (e : ℤ) → mag e < 5000 → SFits w64 (e +ℤ pos 1)
-one-more (pos n) h = record { sfits = omega arith }
-one-more (negsuc zero) h = record { sfits = omega arith }
-one-more (negsuc (suc n)) h = rw (lt-ltb 1 (suc (suc n)) (omega arith)) (record { sfits = omega arith })
+one-more e h = let l = one-more-mag e h in record { sfits = omega arith }
 
 back : (e : ℤ) → SFits w64 e → toZ w64 (ofZ w64 e) +ℤ pos 1 ≡ e +ℤ pos 1
 back e f = ap (λ (z : ℤ). z +ℤ pos 1) (toZ-ofZ w64 e f)
@@ -29,10 +31,10 @@ add-ln-at : tie.Need-add-ln-at
 add-ln-at c = let a = c .before in rw (back (a .args .e) (a .fits .e)) (one-more (a .args .e) (a .pre))
 
 ln-at-requires : tie.Need-ln-at-requires
-ln-at-requires c κs = search needs
+ln-at-requires c κs = let a = c .before in rw (back-again (a .args .e) (a .fits .e) (a .pre)) (one-more-mag (a .args .e) (a .pre))
 
 ln-at-requires-2 : tie.Need-ln-at-requires-2
-ln-at-requires-2 c κs = search needs
+ln-at-requires-2 c κs = let a = c .before in rw (toZ-ofZ w64 (a .args .e) (a .fits .e)) (let l = a .pre in omega arith)
 
 returns : tie.Need-returns
 unfolding lnFrom round ofBits lt

@@ -1,3 +1,4 @@
+-- `normal::pdf`: one call of `exp`, with the literals the nearest floats by computation. Assumes nothing.
 use lib.Ieee.{ofBits, round}
 use borrow.Author.Needs.{needs}
 use Rattle.normal.proofs.pdf.Statement.{statement}

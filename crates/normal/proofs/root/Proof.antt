@@ -1,10 +1,9 @@
--- `normal::root` meets its contract: after the first loop q * q + rem is t, and after n turns of the second it is t * 4 ^ n (`proofs/Squares.antt`). Assumes nothing.
-use mathlib.Core.Path.{_≡_, refl, sym, ap, _∙_, subst}
+-- `normal::root`: after the first loop q * q + rem is t, and after n rounds of the second it is t * 4^n (Squares). Assumes nothing.
+use mathlib.Core.Path.{_≡_, sym, ap, _∙_}
 use Prim.Native.Nat.{ℕ, _+_, _-_, _*_, _/_, _%_, _^_, _≤_, _<_}
 use native.Mathlib.Omega.{arith}
-use native.Mathlib.Nat.{div-one, mul-one, add-zero, lt-of-le-of-lt, le-of-eq}
-use borrow.Author.Needs.{needs}
-use Rattle.normal.proofs.Squares.{root-lt, none, digit, grow, shrunk-lt, grown-lt}
+use native.Mathlib.Nat.{div-one, mul-one, add-zero}
+use Rattle.normal.proofs.Squares.{root-lt, all-shifted, digit, grow, shrunk-lt, grown-lt}
 use Rattle.normal.proofs.root.Statement.{statement}
 use Rattle.normal.proofs.root.Tie as tie
 
@@ -24,7 +23,7 @@ small : (q rem x : ℕ) → q * q + rem ≡ x → x < 18014398509481984 * 180143
 small q rem x e h = let l = root-lt q 18014398509481984 (omega arith) in omega arith
 
 loop-holds : tie.Need-loop-holds Inv-loop μ-loop Inv-loop2 μ-loop2
-loop-holds c = (omega arith, sym (none (c .args .t) (c .pre)), omega arith)
+loop-holds c = (omega arith, sym (all-shifted (c .args .t) (c .pre)), omega arith)
 
 sub-i : tie.Need-sub-i Inv-loop μ-loop Inv-loop2 μ-loop2
 sub-i c = omega arith

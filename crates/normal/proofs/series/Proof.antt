@@ -5,7 +5,7 @@ use native.Mathlib.Omega.{arith}
 use native.Mathlib.Numerals.{add-one}
 use borrow.Author.Needs.{needs}
 use lib.Ieee.{ofBits, round, ofInt}
-use Rattle.normal.specs.Erfc.{Series, series}
+use Rattle.normal.specs.Erfc.{series}
 use Rattle.normal.proofs.series.Statement.{statement}
 use Rattle.normal.proofs.series.Tie as tie
 

@@ -1,8 +1,8 @@
--- `normal::sqrt` meets its contract. Assumes nothing.
+-- `normal::sqrt`: the four tests leave a float above 0, and `halved_root` is the definition at its digits; that it is the nearest is Nearest's law.
+-- Assumes nothing.
 use mathlib.Core.Path.{_≡_, refl, sym, ap, _∙_, subst}
-use mathlib.Core.Bool.{Bool, true, false}
+use mathlib.Core.Bool.{false}
 use Prim.Native.Nat.{ℕ, zero, suc, _+_, _*_, _/_, _^_}
-use native.Mathlib.Omega.{arith}
 use borrow.Author.Needs.{needs}
 use lib.Dec.{T}
 use lib.Ieee.{Float, nan, inf, fin, binary64, fits, ofBits, div, size, round}
@@ -11,7 +11,6 @@ use lib.Ieee.Positive.{positive}
 use Rattle.floats.proofs.Signs.{Negative, Zero, is-negative, is-zero, is-infinity, is-positive}
 use Rattle.floats.specs.Wholes.{units}
 use Rattle.normal.specs.Root.{SquareRoot, NearestRoot, sqrt, rootOfUnits, halfRoot}
-use Rattle.normal.specs.Steps.{Digits}
 use Rattle.normal.proofs.Squares.{under-even, under-odd}
 use Rattle.normal.proofs.Nearest.{at-positive, nearest-root}
 use Rattle.normal.proofs.sqrt.Statement.{statement}

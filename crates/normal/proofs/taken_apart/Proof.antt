@@ -1,7 +1,7 @@
--- `normal::taken_apart` meets its contract (`proofs/Digits.antt`). Assumes nothing.
-use mathlib.Core.Path.{_≡_, refl, sym, ap, _∙_, subst}
+-- `normal::taken_apart`: a field of 0 is a subnormal, whose digits are moved up; any other has its leading digit added (Digits). Assumes nothing.
+use mathlib.Core.Path.{sym, subst}
 use mathlib.Core.Bool.{not}
-use Prim.Native.Nat.{ℕ, _/_, _≤_, _<_}
+use Prim.Native.Nat.{_<_}
 use native.Mathlib.Omega.{arith}
 use borrow.Author.Needs.{needs}
 use lib.Dec.{T}
