@@ -9,6 +9,7 @@ pub mod Mantissas
 pub mod Squares
 pub mod Neighbours
 pub mod Nearest
+pub mod Same
 pub mod Examples
 pub mod Mirror
 pub mod Reciprocals

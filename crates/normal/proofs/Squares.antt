@@ -72,7 +72,7 @@ odd-no-nan (suc r) k = refl
 
 half-is-no-nan : (n k : ℕ) → isNan (halfRoot n k) ≡ false
 unfolding halfRoot
-half-is-no-nan n k = odd-no-nan ((wholeRoot 54 n + 1) / 2) k
+half-is-no-nan n k = odd-no-nan _ k
 
 -- ---- half the root, rounded, has 53 digits
 module _ (t q : ℕ) (lo : 4503599627370496 ≤ t) (hi : t + 1 < 18014398509481984) (a : q * q ≤ t * 18014398509481984) (b : t * 18014398509481984 < (q + 1) * (q + 1)) where
