@@ -7,15 +7,17 @@ use native.Mathlib.Nat.{mul-assoc, mul-right-comm, mul-le-mul-right, le-of-mul-l
 use lib.Dec.{T, ltb, eqb, lit<, lit≤, ltb→lt, lt→ltb, eqb→eq}
 use lib.IntN.{ℤ, pos, negℤ}
 use lib.Ieee.{Float, nan, inf, fin, binary64, up, down, lt, le, ne, add, sum, mul, neg, round, units, odd}
-use Rattle.floats.specs.Operators.{decimal, _≺_}
+use Rattle.floats.specs.Operators.{decimal, _⊗_, _≺_}
+use Rattle.floats.specs.Values.{finite}
 use lib.Ieee.Exact.{HasValue, round-exact}
-use lib.Ieee.Fits.{down-pos, and-l}
+use lib.Ieee.Fits.{add-fits, down-pos, and-l}
 use lib.Ieee.Order.{round-mono, kept, drop}
 use lib.Pow.{shl-lt}
 use lib.Ieee.Compare.{nan-differs}
 use borrow.Author.Tests.{ltb-false}
-use Rattle.normal.specs.Exp.{overflowLimit, underflowLimit, scaled, floor}
+use Rattle.normal.specs.Exp.{overflowLimit, underflowLimit, scaled, floor, LargestNotAbove}
 use Rattle.normal.specs.Steps.{inExponent, Small}
+use Rattle.normal.proofs.Largest.{floor-largest}
 
 -- finite, of the sign s, and at most n / 8 in size
 abbrev pub Near : Bool → ℕ → Float → Type 0
@@ -187,3 +189,13 @@ range-exponent (fin true m e) h =
     go : (q : ℕ) → q < 1023 → T (inExponent (negℤ (pos q)))
     go zero h = tt
     go (suc q) h = lt→ltb q 1022 (omega arith)
+
+-- the k of exp, between the limits
+range-finite : (t : Float) → InRange t → T (finite t)
+unfolding InRange
+range-finite nan h = absurd h
+range-finite (inf s) h = absurd h
+range-finite (fin s m e) h = tt
+
+pub k-largest : (v : Float) → ne v v ≡ false → overflowLimit ≺ v ≡ false → v ≺ underflowLimit ≡ false → LargestNotAbove (scaled v) (floor (scaled v))
+k-largest v n h l = floor-largest (scaled v) (add-fits binary64 (v ⊗ c) half) (range-finite (scaled v) (in-range v n h l))
