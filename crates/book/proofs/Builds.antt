@@ -1,0 +1,171 @@
+-- The build of a book that agrees with the tally is the surface of the tally's quotes. Assumes nothing.
+use mathlib.Core.Path.{_≡_, refl, sym, ap, _∙_, subst}
+use mathlib.Core.Logic.{inl, inr}
+use Prim.Native.Nat.{ℕ, _-_, _*_, _≤_, _<_}
+use native.Mathlib.Nat.{eq-or-lt-of-le}
+use native.Mathlib.Omega.{arith}
+use mathlib.Core.Bool.{Bool, true, false, not, _||_}
+use mathlib.Core.List.{List}
+use mathlib.Core.Option.{Option, some}
+use mathlib.Core.Option as Option
+use lib.Dec.{ltb}
+use lib.ListN.{length, drop}
+use lib.Seq.{take-append-seam, drop-append-seam}
+use borrow.Author.Tests.{lt-ltb, le-ltb, ltb-true, ltb-false, eq-eqb, ne-eqb}
+use lib.Ieee.{nan}
+use Rattle.floats.proofs.Tests.{or-right-false}
+use Rattle.limits.specs.Checks.{first, none}
+use Rattle.grid.specs.Answers.{answered, unlessRefused}
+use Rattle.surface.specs.Quotes.{Quote, quotes, allInRange}
+use Rattle.surface.specs.Cells.{axes, count, mean, leftward, rightward, either, source, cell}
+use Rattle.surface.specs.Build.{front, table, lengths, noLengths, refusal}
+use Rattle.surface.proofs.Neighbour.{Left, Right, left-is, right-is}
+use Rattle.book.specs.Model.{Opening}
+use Rattle.book.specs.Tally.{Tally}
+use Rattle.book.specs.Book.{Columns, openRefusal, isShort}
+use Rattle.book.specs.Build.{Buffers, quotesOf, buildRefusal, buildOutcome, buffersAfter}
+use Rattle.book.specs.Claim.{Ledger, Neighbour, left, right, surfaceRefusal, rows, columns, SurfaceClaim, BuildClaim}
+use Rattle.book.proofs.Agree.{Agree, or-left-false, same-short, unbroken}
+use Rattle.book.proofs.SurfaceCells.{housed-one, once-each, row-busy}
+use Rattle.book.proofs.SurfaceTable.{table-length, table-at, table-rest}
+
+-- ---- where a cell's mean comes from
+own-source : (c : ℕ → ℕ) (w j : ℕ) → 0 < c j → source c w j ≡ j
+unfolding source
+own-source c w j h = rw (lt-ltb 0 (c j) h)
+
+-- a row with a counted column b has a neighbour for each uncounted one
+found-in : (c : ℕ → ℕ) (w j b : ℕ) (l r : Option ℕ) → c j ≡ 0 → j < w → b < w → 0 < c b → Left c j l → Right c j w r → Neighbour c w j (either l r)
+found-in c w j b (some k) r z h g p a d = left (a .0) (a .1) (a .2)
+found-in c w j b Option.none (some k) z h g p a d = elim (eq-or-lt-of-le (d .0)) [
+  | inl e ↦ absurd (omega (arith, ap c e, d .2))
+  | inr n ↦ right a n (d .1) (d .2) (λ m u v. d .3 m (omega arith) v)
+]
+found-in c w j b Option.none Option.none z h g p a d = absurd (go (ltb b j) refl)
+  where
+    go : (t : Bool) → ltb b j ≡ t → ⊥
+    go true t = omega (arith, a b (ltb-true b j t))
+    go false t = omega (arith, d b (ltb-false b j t) g)
+
+neighbour : (c : ℕ → ℕ) (w j b : ℕ) → c j ≡ 0 → j < w → b < w → 0 < c b → Neighbour c w j (source c w j)
+unfolding source
+neighbour c w j b z h g p =
+    rw (le-ltb 0 (c j) (omega arith)) (found-in c w j b (leftward c j) (rightward c j (w - j)) z h g p (left-is c j) (right-is c j (w - j) w (omega arith)))
+
+-- ---- the surface of quotes in range, in buffers that are long enough
+module _ (qs : List Quote) (s : Buffers) where
+  abbrev surfaceAfter : Buffers
+  surfaceAfter =
+      record {
+        strikes = front (axes qs .strikes) (s .strikes);
+        expiries = front (axes qs .expiries) (s .expiries);
+        grid = table (rows qs s) (columns qs s) (cell (axes qs) qs) (s .grid);
+        counts = table (rows qs s) (columns qs s) (λ i j. count (axes qs) i j qs) (s .counts);
+      }
+
+  surface-claim : allInRange qs ≡ true → columns qs s ≤ 64 → rows qs s ≤ 32 → 2048 ≤ length (s .grid) → 2048 ≤ length (s .counts) → SurfaceClaim qs s surfaceAfter
+  unfolding cell
+  surface-claim ranged narrow low grid counts =
+      let x = axes qs in
+      let g : 64 * rows qs s ≤ length (s .grid) = omega arith in
+      let n : 64 * rows qs s ≤ length (s .counts) = omega arith in
+      record {
+        strikes = take-append-seam (x .strikes) (drop (columns qs s) (s .strikes));
+        expiries = take-append-seam (x .expiries) (drop (rows qs s) (s .expiries));
+        housed = λ m. housed-one qs ranged m;
+        counts = λ i j a b. table-at (λ i j. count x i j qs) (columns qs s) (s .counts) narrow (rows qs s) i j 0 n a b;
+        once = once-each qs ranged;
+        means = λ i j a b c.
+            table-at (cell x qs) (columns qs s) (s .grid) narrow (rows qs s) i j nan g a b
+            ∙ ap (λ (k : ℕ). mean x i k qs) (own-source (λ k. count x i k qs) (columns qs s) j c);
+        neighbours = λ i j a b z.
+            let y = row-busy qs i ranged a in (
+              source (λ k. count x i k qs) (columns qs s) j,
+              neighbour (λ k. count x i k qs) (columns qs s) j (y .column) z b (y .inside) (y .counts),
+              table-at (cell x qs) (columns qs s) (s .grid) narrow (rows qs s) i j nan g a b,
+            );
+        rest-strikes = drop-append-seam (x .strikes) (drop (columns qs s) (s .strikes));
+        rest-expiries = drop-append-seam (x .expiries) (drop (rows qs s) (s .expiries));
+        rest-grid = λ p o. table-rest (cell x qs) (columns qs s) (s .grid) narrow (rows qs s) p nan g o;
+        rest-counts = λ p o. table-rest (λ i j. count x i j qs) (columns qs s) (s .counts) narrow (rows qs s) p 0 n o;
+        same-lengths = (table-length (cell x qs) (columns qs s) (s .grid) narrow (rows qs s) g, table-length (λ i j. count x i j qs) (columns qs s) (s .counts) narrow (rows qs s) n);
+      }
+
+-- ---- the checks of a build
+-- what passing 15, 16 and 17 says
+pub record Fits (qs : List Quote) (s : Buffers) : Type 0 where
+  pub narrow : columns qs s ≤ 64
+  pub low : rows qs s ≤ 32
+  pub grid : 2048 ≤ length (s .grid)
+  pub counts : 2048 ≤ length (s .counts)
+
+passed : (short buffers strikes expiries : Bool) → first short 1 (first buffers 15 (first strikes 16 (first expiries 17 none))) ≡ none
+    → (buffers ≡ false) × (strikes ≡ false) × (expiries ≡ false)
+unfolding first
+passed true b k t e = absurd (omega arith)
+passed false true k t e = absurd (omega arith)
+passed false false true t e = absurd (omega arith)
+passed false false false true e = absurd (omega arith)
+passed false false false false e = (refl, refl, refl)
+
+pub fits : (qs : List Quote) (s : Buffers) (short : Bool) → surfaceRefusal qs s short ≡ none → Fits qs s
+unfolding surfaceRefusal
+fits qs s short e =
+    let a = ltb (length (s .strikes)) 64 in
+    let b = ltb (length (s .expiries)) 32 in
+    let c = ltb (length (s .grid)) 2048 in
+    let d = ltb (length (s .counts)) 2048 in
+    let p = passed short (a || b || c || d) (ltb 64 (columns qs s)) (ltb 32 (rows qs s)) e in
+    record {
+      narrow = ltb-false 64 (columns qs s) (p .1);
+      low = ltb-false 32 (rows qs s) (p .2);
+      grid = ltb-false (length (s .grid)) 2048 (or-right-false (a || b) c (or-left-false (a || b || c) d (p .0)));
+      counts = ltb-false (length (s .counts)) 2048 (or-right-false (a || b || c) d (p .0));
+    }
+
+-- 2 does not hold of the book, and 1 is told once
+twice : (short buffers strikes expiries : Bool)
+    → first short 1 (first false 2 (first short 1 (first false 2 (first buffers 15 (first strikes 16 (first expiries 17 none))))))
+    ≡ first short 1 (first buffers 15 (first strikes 16 (first expiries 17 none)))
+unfolding first
+twice true b k t = refl
+twice false b k t = refl
+
+surface-lines : (c : Columns) (kept k t g n strikes expiries : ℕ)
+    → refusal (c .strikes) (c .expiries) (c .volatilities) kept k t g n strikes expiries
+    ≡ first (isShort c) 1
+    (first (ltb 1024 kept || not (allInRange (quotes kept (c .strikes) (c .expiries) (c .volatilities)))) 2
+    (first (ltb k 64 || ltb t 32 || ltb g 2048 || ltb n 2048) 15
+    (first (ltb 64 strikes) 16
+    (first (ltb 32 expiries) 17
+    none))))
+unfolding refusal isShort
+surface-lines c kept k t g n strikes expiries = refl
+
+module _ (opening : Opening) (was : Columns) (ok : openRefusal opening ≡ none) (l : Ledger) (t : Tally) (a : Agree opening was l t) (same : quotesOf (l .book) (l .columns) ≡ t .quotes) (s : Buffers) where
+  refusal-is : buildRefusal (l .book) (l .columns) s ≡ surfaceRefusal (t .quotes) s (isShort was)
+  unfolding buildRefusal surfaceRefusal
+  refusal-is =
+      rw (surface-lines, same-short opening was l t a, unbroken opening was l t ok a, le-ltb 1024 (l .book .kept) (a .room), same, a .ranged)
+      (twice (isShort was) (ltb (length (s .strikes)) 64 || ltb (length (s .expiries)) 32 || ltb (length (s .grid)) 2048 || ltb (length (s .counts)) 2048) (ltb 64 (columns (t .quotes) s)) (ltb 32 (rows (t .quotes) s)))
+
+  outcome-is : buildOutcome (l .book) (l .columns) s ≡ answered (surfaceRefusal (t .quotes) s (isShort was)) noLengths (lengths (axes (t .quotes)))
+  unfolding buildOutcome
+  outcome-is = λ i. answered (refusal-is i) noLengths (lengths (axes (same i)))
+
+  buffers-are : buffersAfter (l .book) (l .columns) s ≡ unlessRefused (surfaceRefusal (t .quotes) s (isShort was)) (surfaceAfter (t .quotes) s) s
+  unfolding buffersAfter
+  buffers-are = λ i. unlessRefused (refusal-is i) (surfaceAfter (same i) s) s
+
+  pub build-claim : BuildClaim (t .quotes) s (isShort was) (buildOutcome (l .book) (l .columns) s) (buffersAfter (l .book) (l .columns) s)
+  unfolding unlessRefused
+  build-claim =
+      let r = surfaceRefusal (t .quotes) s (isShort was) in
+      record {
+        number = outcome-is;
+        refused = λ n. buffers-are ∙ rw (ne-eqb r none n);
+        surface = λ e.
+            let f = fits (t .quotes) s (isShort was) e in
+            let accepted : buffersAfter (l .book) (l .columns) s ≡ surfaceAfter (t .quotes) s = buffers-are ∙ rw (eq-eqb r none e) in
+            subst (λ (s' : Buffers). SurfaceClaim (t .quotes) s s') (sym accepted) (surface-claim (t .quotes) s (a .ranged) (f .narrow) (f .low) (f .grid) (f .counts));
+      }

@@ -1,0 +1,41 @@
+-- `book::hand_on`: the solver refused, with a number above 3 and at most 52 evaluations. Assumes nothing.
+use Prim.Native.Nat.{_≤_}
+use mathlib.Core.Path.{sym, ap, subst}
+use native.Mathlib.Omega.{arith}
+use borrow.Author.Tests.{lt-leb}
+use Rattle.brent.specs.Outcome.{zeros}
+use Rattle.greeks.specs.Implied.{outcomeOfImplied}
+use Rattle.greeks.specs.declared.Implied.{Implied}
+use Rattle.book.specs.Book.{bookAfter}
+use Rattle.book.specs.Calls.{Turned}
+use Rattle.book.proofs.Records.{bounds-of}
+use Rattle.book.proofs.Solver.{not-refused}
+use borrow.Author.Needs.{needs}
+use Rattle.book.proofs.hand_on.Statement.{statement}
+use Rattle.book.proofs.hand_on.Tie as tie
+
+enum-known-answer : tie.Need-enum-known-answer
+enum-known-answer c = search needs
+
+enum-told : tie.Need-enum-told
+enum-told c = search needs
+
+returns : tie.Need-returns
+returns c = absurd (not-refused (c .before .before .args .answer) (c .before .match .keys2) (c .before .before .pre .2))
+
+turned-requires : tie.Need-turned-requires
+unfolding outcomeOfImplied zeros
+turned-requires c κs =
+    let a = c .before .before .before .args in
+    let h = bounds-of (a .b) (c .before .before .before .pre .0) in
+    let t = subst (λ (x : Implied). Turned (outcomeOfImplied x)) (c .before .answer .given .1) (c .before .before .before .pre .2) in
+    (omega arith, c .before .before .before .pre .1, omega (arith, t .1))
+
+returns-2 : tie.Need-returns-2
+unfolding outcomeOfImplied bookAfter zeros
+returns-2 c =
+    let t = subst (λ (x : Implied). Turned (outcomeOfImplied x)) (c .before .before .answer .given .1) (c .before .before .before .before .pre .2) in
+    record { outcome = ap outcomeOfImplied (sym (c .before .before .answer .given .1)); book = simp (c .before .before .answer .given .1, lt-leb _ 3 (t .0)) (c .turned .ensures) }
+
+pub hand-on-spec : {M : Type 1} → statement M
+hand-on-spec = tie.close (tie.spec enum-known-answer enum-told returns turned-requires returns-2)

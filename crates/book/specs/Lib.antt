@@ -1,0 +1,7 @@
+pub mod Model
+pub mod Tally
+pub mod Book
+pub mod Build
+pub mod Claim
+pub mod Calls
+pub mod Tray

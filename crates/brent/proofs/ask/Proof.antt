@@ -1,0 +1,13 @@
+-- `brent::ask`: the answer is read by `outcome`. Assumes nothing.
+use mathlib.Core.Path.{refl}
+use Rattle.brent.specs.Outcome.{outcome}
+use Rattle.brent.specs.Feed.{ask}
+use Rattle.brent.proofs.ask.Statement.{statement}
+use Rattle.brent.proofs.ask.Tie as tie
+
+returns : tie.Need-returns
+unfolding outcome ask
+returns c = refl
+
+pub ask-spec : {M : Type 1} → statement M
+ask-spec = tie.close (tie.spec returns)

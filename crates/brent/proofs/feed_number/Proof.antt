@@ -1,0 +1,81 @@
+-- `brent::feed_number`: a line a check, in the definition's order. Assumes nothing.
+use borrow.Author.Tests.{le-leb, lt-leb}
+use borrow.Author.Needs.{needs}
+use Rattle.limits.specs.Checks.{first}
+use Rattle.brent.specs.Feed.{feedNumber}
+use Rattle.brent.proofs.feed_number.Statement.{statement}
+use Rattle.brent.proofs.feed_number.Tie as tie
+
+is-spent-requires : tie.Need-is-spent-requires
+is-spent-requires c κs = search needs
+
+returns : tie.Need-returns
+unfolding feedNumber first
+returns c =
+    let spent = simp (c .before .is-spent .ensures) at (c .if1 .taken) in
+    simp spent
+
+is-finite-requires : tie.Need-is-finite-requires
+is-finite-requires c κs = search needs
+
+returns-2 : tie.Need-returns-2
+unfolding feedNumber first
+returns-2 c =
+    let spent = simp (c .before .before .before .is-spent .ensures) at (c .before .before .if1 .left) in
+    let error = simp (c .before .is-finite .ensures) at (c .if2 .taken) in
+    simp (spent, error)
+
+is-unbracketed-requires : tie.Need-is-unbracketed-requires
+is-unbracketed-requires c κs = search needs
+
+returns-3 : tie.Need-returns-3
+unfolding feedNumber first
+returns-3 c =
+    let spent = simp (c .before .before .before .before .before .is-spent .ensures) at (c .before .before .before .before .if1 .left) in
+    let error = simp (c .before .before .before .is-finite .ensures) at (c .before .before .if2 .left) in
+    let ends = simp (c .before .is-unbracketed .ensures) at (c .if3 .taken) in
+    simp (spent, error, ends)
+
+returns-4 : tie.Need-returns-4
+unfolding feedNumber first
+returns-4 c =
+    let spent = simp (c .before .before .before .before .before .before .is-spent .ensures) at (c .before .before .before .before .before .if1 .left) in
+    let error = simp (c .before .before .before .before .is-finite .ensures) at (c .before .before .before .if2 .left) in
+    let ends = simp (c .before .before .is-unbracketed .ensures) at (c .before .if3 .left) in
+    simp (spent, error, ends, le-leb _ _ (c .if4 .taken))
+
+is-astray-requires : tie.Need-is-astray-requires
+is-astray-requires c κs = search needs
+
+returns-5 : tie.Need-returns-5
+unfolding feedNumber first
+returns-5 c =
+    let spent = simp (c .before .before .before .before .before .before .before .before .is-spent .ensures) at (c .before .before .before .before .before .before .before .if1 .left) in
+    let error = simp (c .before .before .before .before .before .before .is-finite .ensures) at (c .before .before .before .before .before .if2 .left) in
+    let ends = simp (c .before .before .before .before .is-unbracketed .ensures) at (c .before .before .before .if3 .left) in
+    let answer = simp (c .before .is-astray .ensures) at (c .if5 .taken) in
+    simp (spent, error, ends, lt-leb _ _ (c .before .before .if4 .left), answer)
+
+returns-6 : tie.Need-returns-6
+unfolding feedNumber first
+returns-6 c =
+    let spent = simp (c .before .before .before .before .before .before .before .before .is-spent .ensures) at (c .before .before .before .before .before .before .before .if1 .left) in
+    let error = simp (c .before .before .before .before .before .before .is-finite .ensures) at (c .before .before .before .before .before .if2 .left) in
+    let ends = simp (c .before .before .before .before .is-unbracketed .ensures) at (c .before .before .before .if3 .left) in
+    let answer = simp (c .before .is-astray .ensures) at (c .if5 .left) in
+    simp (spent, error, ends, lt-leb _ _ (c .before .before .if4 .left), answer)
+
+pub feed-number-spec : {M : Type 1} → statement M
+feed-number-spec =
+    tie.close
+    (tie.spec
+    is-spent-requires
+    returns
+    is-finite-requires
+    returns-2
+    is-unbracketed-requires
+    returns-3
+    returns-4
+    is-astray-requires
+    returns-5
+    returns-6)

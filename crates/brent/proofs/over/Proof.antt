@@ -1,0 +1,13 @@
+-- `brent::over`: every number is 0. Assumes nothing.
+use mathlib.Core.Path.{refl}
+use lib.Ieee.{ofBits, round}
+use Rattle.brent.specs.Feed.{over}
+use Rattle.brent.proofs.over.Statement.{statement}
+use Rattle.brent.proofs.over.Tie as tie
+
+returns : tie.Need-returns
+unfolding ofBits round over
+returns c = refl
+
+pub over-spec : {M : Type 1} → statement M
+over-spec = tie.close (tie.spec returns)

@@ -1,0 +1,26 @@
+-- `brent::swap`: the test decides as the definition says. Assumes nothing.
+use borrow.Author.Needs.{needs}
+use Rattle.brent.specs.Brent.{swap}
+use Rattle.brent.proofs.swap.Statement.{statement}
+use Rattle.brent.proofs.swap.Tie as tie
+
+abs-requires : tie.Need-abs-requires
+abs-requires c κs = search needs
+
+abs-requires-2 : tie.Need-abs-requires-2
+abs-requires-2 c κs = search needs
+
+returns : tie.Need-returns
+unfolding swap
+returns c =
+    let t = simp (c .before .before .abs .ensures, c .before .abs2 .ensures) at (c .if1 .taken) in
+    simp t
+
+returns-2 : tie.Need-returns-2
+unfolding swap
+returns-2 c =
+    let t = simp (c .before .before .abs .ensures, c .before .abs2 .ensures) at (c .if1 .left) in
+    simp t
+
+pub swap-spec : {M : Type 1} → statement M
+swap-spec = tie.close (tie.spec abs-requires abs-requires-2 returns returns-2)

@@ -1,0 +1,16 @@
+-- `brent::turned`: the test decides as the definition says. Assumes nothing.
+use lib.Ieee.{ofBits, round}
+use Rattle.brent.specs.Brent.{turned}
+use Rattle.brent.proofs.turned.Statement.{statement}
+use Rattle.brent.proofs.turned.Tie as tie
+
+returns : tie.Need-returns
+unfolding ofBits round turned
+returns c = simp (c .if1 .taken)
+
+returns-2 : tie.Need-returns-2
+unfolding ofBits round turned
+returns-2 c = simp (c .if1 .left)
+
+pub turned-spec : {M : Type 1} → statement M
+turned-spec = tie.close (tie.spec returns returns-2)

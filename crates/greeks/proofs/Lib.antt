@@ -1,0 +1,3 @@
+pub mod PreparedLaws
+pub mod Refusals
+pub mod Solving

@@ -1,0 +1,22 @@
+-- `greeks::prepare`: each field is what its call ensures. Assumes nothing.
+use Rattle.greeks.specs.Model.{discount}
+use Rattle.greeks.specs.Prepared.{prepare}
+use borrow.Author.Needs.{needs}
+use Rattle.greeks.proofs.prepare.Statement.{statement}
+use Rattle.greeks.proofs.prepare.Tie as tie
+
+ln-requires : tie.Need-ln-requires
+ln-requires c κs = search needs
+
+sqrt-requires : tie.Need-sqrt-requires
+sqrt-requires c κs = search needs
+
+exp-requires : tie.Need-exp-requires
+exp-requires c κs = search needs
+
+returns : tie.Need-returns
+unfolding prepare discount
+returns c = simp (c .exp .ensures, c .before .sqrt .ensures .equals, c .before .before .ln .ensures)
+
+pub prepare-spec : {M : Type 1} → statement M
+prepare-spec = tie.close (tie.spec ln-requires sqrt-requires exp-requires returns)

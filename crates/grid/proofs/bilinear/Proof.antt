@@ -1,0 +1,14 @@
+-- `grid::bilinear`: the expression itself. Assumes nothing.
+use Rattle.grid.specs.Readings.{bilinear}
+use Prim.Native.Nat.{_-_}
+use mathlib.Core.Path.{refl}
+use lib.Ieee.{ofBits, round}
+use Rattle.grid.proofs.bilinear.Statement.{statement}
+use Rattle.grid.proofs.bilinear.Tie as tie
+
+returns : tie.Need-returns
+unfolding bilinear ofBits round
+returns c = refl
+
+pub bilinear-spec : {M : Type 1} → statement M
+bilinear-spec = tie.close (tie.spec returns)

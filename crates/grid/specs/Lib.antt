@@ -1,0 +1,5 @@
+pub mod Answers
+pub mod Layout
+pub mod Search
+pub mod Gaps
+pub mod Readings

@@ -1,0 +1,94 @@
+-- Document 01: "Reading checks 2, 15, 18, 19, 20 and follows `interpolate`. The at-the-money reading takes the strike at index n/2, rounded down."
+-- `bracket` and the corners v00, v10, v01, v11 are the Rust's.
+use Prim.Native.Nat.{ℕ, zero, suc, _-_, _/_}
+use mathlib.Core.Bool.{Bool, true, false, not, _&&_, _||_}
+use mathlib.Core.List.{List, [], _∷_}
+use lib.Dec.{ltb, leb, eqb}
+use lib.ListN.{length, take, getD}
+use lib.Ieee.{Float, nan, isNan}
+use Rattle.floats.specs.Operators.{decimal, _⊕_, _⊖_, _⊗_, _⊘_, _≺_, _≼_, if_then_else_}
+use Rattle.floats.specs.Values.{magnitude, finite}
+use Rattle.limits.specs.Ranges.{within}
+use Rattle.limits.specs.Checks.{first, none}
+use Rattle.limits.specs.Outcome.{Outcome, done, refused}
+use Rattle.grid.specs.Answers.{answered}
+use Rattle.grid.specs.Layout.{cellAt}
+use Rattle.grid.specs.Search.{firstWhere}
+use Rattle.grid.specs.declared.Span.{Span}
+use Rattle.grid.specs.declared.Corners.{Corners}
+use Rattle.grid.specs.declared.Reading.{Reading}
+use Rattle.grid.specs.declared.Reading.the-variants.{Value, Refused}
+
+-- 18: an axis has values, and they are finite and strictly ascending.
+unfoldable pub ascends : Float → List Float → Bool
+ascends x [] = true
+ascends x (y ∷ ys) = (finite y && x ≺ y) && ascends y ys
+
+unfoldable pub isAxis : List Float → Bool
+isAxis [] = false
+isAxis (x ∷ xs) = finite x && ascends x xs
+
+-- 19 and 20: from the first value of an axis to its last, ends included. A not-a-number is outside.
+unfoldable pub inside : List Float → Float → Bool
+inside axis x = within (getD axis 0 nan) (getD axis (length axis - 1) nan) x
+
+-- How far x stands from one axis value towards the next.
+unfoldable pub fraction : Float → Float → Float → Float
+fraction lo hi x = if magnitude (hi ⊖ lo) ≺ decimal 1 1000000000000000 then decimal 0 1 else (x ⊖ lo) ⊘ (hi ⊖ lo)
+
+-- The two axis values that x stands between, by index, and the fraction. `partition_point` of an ascending axis is the first value above x.
+unfoldable pub bracket : List Float → Float → Span
+bracket axis x =
+    let n = length axis in
+    let pos = firstWhere (λ v. not (v ≼ x)) axis in
+    if eqb n 1 || eqb pos 0 then record { lower = 0; upper = 0; fraction = decimal 0 1 } else
+    (if leb n pos then record { lower = n - 1; upper = n - 1; fraction = decimal 0 1 } else
+    record { lower = pos - 1; upper = pos; fraction = fraction (getD axis (pos - 1) nan) (getD axis pos nan) x })
+
+-- The cells that a read uses: all four corners of its brackets, also one that has no weight.
+unfoldable pub corners : Span → Span → List Float → Corners
+corners s e grid =
+    record {
+      v00 = getD grid (cellAt (e .lower) (s .lower)) nan;
+      v10 = getD grid (cellAt (e .lower) (s .upper)) nan;
+      v01 = getD grid (cellAt (e .upper) (s .lower)) nan;
+      v11 = getD grid (cellAt (e .upper) (s .upper)) nan;
+    }
+
+unfoldable pub hasGap : Corners → Bool
+hasGap v = isNan (v .v00) || isNan (v .v10) || isNan (v .v01) || isNan (v .v11)
+
+-- Bilinear interpolation, ts the fraction among strikes and te among expiries.
+unfoldable pub bilinear : Corners → Float → Float → Float
+bilinear v ts te =
+    (decimal 1 1 ⊖ te) ⊗ ((decimal 1 1 ⊖ ts) ⊗ v .v00 ⊕ ts ⊗ v .v10)
+    ⊕ te ⊗ ((decimal 1 1 ⊖ ts) ⊗ v .v01 ⊕ ts ⊗ v .v11)
+
+-- The checks of a read of a surface: its lent axes and grid, and how many strikes and expiries are in use. `gap` is whether a cell that the
+-- read uses is not-a-number.
+unfoldable pub readRefusal : List Float → List Float → List Float → ℕ → ℕ → Float → Float → Bool → ℕ
+readRefusal strikeAxis expiryAxis grid strikes expiries strike expiry gap =
+    first (ltb 64 strikes || ltb 32 expiries) 2
+    (first (ltb (length strikeAxis) 64 || ltb (length expiryAxis) 32 || ltb (length grid) 2048) 15
+    (first (not (isAxis (take strikes strikeAxis) && isAxis (take expiries expiryAxis))) 18
+    (first (not (inside (take strikes strikeAxis) strike)) 19
+    (first (not (inside (take expiries expiryAxis) expiry) || gap) 20
+    none))))
+
+-- What a read answers: the volatility, or a refusal with 0.0.
+unfoldable pub reading : List Float → List Float → List Float → ℕ → ℕ → Float → Float → Outcome Float
+reading strikeAxis expiryAxis grid strikes expiries strike expiry =
+    let s = bracket (take strikes strikeAxis) strike in
+    let e = bracket (take expiries expiryAxis) expiry in
+    let v = corners s e grid in
+    answered (readRefusal strikeAxis expiryAxis grid strikes expiries strike expiry (hasGap v)) (decimal 0 1)
+    (bilinear v (s .fraction) (e .fraction))
+
+-- The strike that stands for the money: the one at index n/2.
+abbrev pub middleStrike : List Float → ℕ → Float
+middleStrike strikeAxis strikes = getD strikeAxis (strikes / 2) nan
+
+-- The answer in document 01's terms.
+abbrev pub readOutcome : Reading → Outcome Float
+readOutcome (Value volatility) = done volatility
+readOutcome (Refused number) = refused number (decimal 0 1)

@@ -1,0 +1,15 @@
+pub mod Choice
+pub mod Gap
+pub mod Sorting
+pub mod Kept
+pub mod Neighbour
+pub mod Filing
+pub mod Tables
+pub mod BuildChecks
+pub mod Ordered
+pub mod Spread
+pub mod Housing
+pub mod Made
+pub mod Examples
+pub mod Layouts
+pub mod Numbers

@@ -1,0 +1,81 @@
+-- `surface::are_quotes`: the quotes passed are in range, so the rest decides. Assumes nothing.
+use Rattle.surface.proofs.Kept.{range-on, range-stop, range-end}
+use Rattle.surface.specs.Quotes.{quotes, allInRange}
+use borrow.Author.Tests.{not-true, not-false}
+use Prim.Native.Nat.{_-_, _≤_}
+use mathlib.Core.Path.{_≡_, refl, sym, _∙_}
+use lib.ListN.{drop}
+use native.Mathlib.Omega.{arith}
+use Rattle.surface.proofs.are_quotes.Statement.{statement}
+use Rattle.surface.proofs.are_quotes.Tie as tie
+
+abbrev Inv-loop : tie.InvT-loop
+Inv-loop strikes expiries volatilities n i₀ i = (i ≤ n) × (allInRange (drop i (quotes n strikes expiries volatilities)) ≡ allInRange (quotes n strikes expiries volatilities))
+
+abbrev μ-loop : tie.MeasureT-loop
+μ-loop strikes expiries volatilities n i₀ i = n - i
+
+loop-holds : tie.Need-loop-holds Inv-loop μ-loop
+loop-holds c = (omega arith, refl)
+
+mul-is-quote : tie.Need-mul-is-quote Inv-loop μ-loop
+mul-is-quote c = omega arith
+
+shared-slice-read-is-quote : tie.Need-shared-slice-read-is-quote Inv-loop μ-loop
+shared-slice-read-is-quote c = omega arith
+
+mul-is-quote-2 : tie.Need-mul-is-quote-2 Inv-loop μ-loop
+mul-is-quote-2 c = omega arith
+
+shared-slice-read-is-quote-2 : tie.Need-shared-slice-read-is-quote-2 Inv-loop μ-loop
+shared-slice-read-is-quote-2 c = omega arith
+
+mul-is-quote-3 : tie.Need-mul-is-quote-3 Inv-loop μ-loop
+mul-is-quote-3 c = omega arith
+
+shared-slice-read-is-quote-3 : tie.Need-shared-slice-read-is-quote-3 Inv-loop μ-loop
+shared-slice-read-is-quote-3 c = omega arith
+
+is-quote-requires : tie.Need-is-quote-requires Inv-loop μ-loop
+is-quote-requires c κs = tt
+
+returns : tie.Need-returns Inv-loop μ-loop
+returns c =
+    let P = c .before .before .before .before .before .before .before .before .before .before .pre in
+    range-stop _ _ _ _ (P .0) (P .1) (P .2) _ _ (c .before .before .before .before .before .loop-test .taken) (sym (c .before .is-quote .ensures) ∙ not-true _ (c .if1 .taken)) (c .before .before .before .before .before .before .loop .inv .1)
+
+add-i : tie.Need-add-i Inv-loop μ-loop
+add-i c = omega arith
+
+loop-less : tie.Need-loop-less Inv-loop μ-loop
+loop-less c = omega arith
+
+loop-again : tie.Need-loop-again Inv-loop μ-loop
+loop-again c =
+    let P = c .before .before .before .before .before .before .before .before .before .before .pre in
+    (omega arith, range-on _ _ _ _ (P .0) (P .1) (P .2) _ _ (c .before .before .before .before .before .loop-test .taken) (sym (c .before .is-quote .ensures) ∙ not-false _ (c .if1 .left)) (c .before .before .before .before .before .before .loop .inv .1))
+
+returns-2 : tie.Need-returns-2 Inv-loop μ-loop
+returns-2 c =
+    let P = c .before .before .before .before .before .pre in
+    range-end _ _ _ _ (P .0) (P .1) (P .2) _ _ (c .loop-test .left) (c .before .loop .inv .1)
+
+pub are-quotes-spec : {M : Type 1} → statement M
+are-quotes-spec =
+    tie.close
+    (tie.spec
+    Inv-loop
+    μ-loop
+    loop-holds
+    mul-is-quote
+    shared-slice-read-is-quote
+    mul-is-quote-2
+    shared-slice-read-is-quote-2
+    mul-is-quote-3
+    shared-slice-read-is-quote-3
+    is-quote-requires
+    returns
+    add-i
+    loop-less
+    loop-again
+    returns-2)

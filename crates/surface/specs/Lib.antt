@@ -1,0 +1,6 @@
+pub mod Quotes
+pub mod Axis
+pub mod Cells
+pub mod Build
+pub mod Meaning
+pub mod Steps

@@ -1,0 +1,58 @@
+-- What the rules come to for quotes in range: no quote is dropped or counted twice, no two axis values are a hair apart, no cell divides by 0.
+use Prim.Native.Nat.{ℕ, zero, suc, _+_, _≤_, _<_}
+use mathlib.Core.Path.{_≡_}
+use mathlib.Core.Bool.{true, false}
+use mathlib.Core.List.{List, [], _∷_, map, List·Permᴰ}
+use lib.ListN.{length}
+use lib.Ieee.{Float, isNan}
+use Rattle.floats.specs.Operators.{_⊖_, _≺_}
+use Rattle.surface.specs.Quotes.{Quote}
+use Rattle.surface.specs.Axis.{hair, sort}
+use Rattle.grid.specs.Readings.{isAxis}
+use Rattle.surface.specs.Cells.{Axes, axes, Housed, count, source, cell}
+
+-- No value of the list is below x; and of no later one, for each value of a sorted list.
+abbrev pub NoneBelow : Float → List Float → Type 0
+NoneBelow x [] = Unit {0}
+NoneBelow x (y ∷ ys) = (y ≺ x ≡ false) × NoneBelow x ys
+
+abbrev pub Sorted : List Float → Type 0
+Sorted [] = Unit {0}
+Sorted (x ∷ xs) = NoneBelow x xs × Sorted xs
+
+-- Each value is above the one before, and their difference is not under 1e-12.
+abbrev pub SpacedAfter : Float → List Float → Type 0
+SpacedAfter last [] = Unit {0}
+SpacedAfter last (v ∷ vs) = (last ≺ v ≡ true) × (v ⊖ last ≺ hair ≡ false) × SpacedAfter v vs
+
+abbrev pub Spaced : List Float → Type 0
+Spaced [] = Unit {0}
+Spaced (v ∷ vs) = SpacedAfter v vs
+
+-- f 0 + .. + f (n - 1).
+unfoldable pub sumTo : ℕ → (ℕ → ℕ) → ℕ
+sumTo zero f = 0
+sumTo (suc n) f = sumTo n f + f n
+
+-- The counts of all cells of a surface, added up.
+abbrev pub allCounts : Axes → List Quote → ℕ
+allCounts x qs = sumTo (length (x .expiries)) (λ i. sumTo (length (x .strikes)) (λ j. count x i j qs))
+
+abbrev pub sourceIn : Axes → List Quote → ℕ → ℕ → ℕ
+sourceIn x qs i j = source (λ k. count x i k qs) (length (x .strikes)) j
+
+pub record Meaning (qs : List Quote) : Type 0 where
+  pub strikes-sorted : Sorted (sort (map (λ (q : Quote). q .strike) qs))
+  pub strikes-same : List·Permᴰ (sort (map (λ (q : Quote). q .strike) qs)) (map (λ (q : Quote). q .strike) qs)
+  pub expiries-sorted : Sorted (sort (map (λ (q : Quote). q .expiry) qs))
+  pub expiries-same : List·Permᴰ (sort (map (λ (q : Quote). q .expiry) qs)) (map (λ (q : Quote). q .expiry) qs)
+  pub strikes-spaced : Spaced (axes qs .strikes)
+  pub expiries-spaced : Spaced (axes qs .expiries)
+  pub housed : Housed (axes qs) qs
+  pub once : allCounts (axes qs) qs ≡ length qs
+  pub row-counted : (i : ℕ) → i < length (axes qs .expiries) → (b : ℕ) × (b < length (axes qs .strikes)) × (0 < count (axes qs) i b qs)
+  pub source-counted : (i j : ℕ) → i < length (axes qs .expiries) → j < length (axes qs .strikes)
+      → (sourceIn (axes qs) qs i j < length (axes qs .strikes)) × (0 < count (axes qs) i (sourceIn (axes qs) qs i j) qs)
+  pub strikes-axis : 0 < length qs → isAxis (axes qs .strikes) ≡ true
+  pub expiries-axis : 0 < length qs → isAxis (axes qs .expiries) ≡ true
+  pub no-gap : length qs ≤ 1024 → (i j : ℕ) → i < length (axes qs .expiries) → j < length (axes qs .strikes) → isNan (cell (axes qs) qs i j) ≡ false
