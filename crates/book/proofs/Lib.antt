@@ -17,3 +17,4 @@ pub mod Solver
 pub mod Listening
 pub mod Building
 pub mod Trays
+pub mod Twelve

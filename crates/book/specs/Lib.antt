@@ -5,3 +5,4 @@ pub mod Build
 pub mod Claim
 pub mod Calls
 pub mod Tray
+pub mod Twelve

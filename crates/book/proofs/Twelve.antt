@@ -1,0 +1,20 @@
+-- The twelve desk examples, each by the computation of the crate that it belongs to. Assumes nothing.
+use mathlib.Core.Path.{_≡_, refl}
+use lib.Ieee.{lt, sub, round}
+use Rattle.floats.specs.Values.{magnitude}
+use Rattle.normal.proofs.Examples as normal
+use Rattle.brent.proofs.Examples as brent
+use Rattle.grid.proofs.Examples.{row-filled}
+use Rattle.grid.specs.Search.{firstWhere}
+use Rattle.surface.proofs.Examples.{one-column, two-columns, one-cell}
+use Rattle.surface.specs.Axis.{insert, sortedInto, keptAfter, thinned, near}
+use Rattle.surface.specs.Cells.{axes, counted}
+use Rattle.book.specs.Twelve.{Holds, table, columns, all-three}
+use mathlib.Core.List.{[], _∷_}
+
+three : columns all-three ≡ 2 ∷ 2 ∷ 1 ∷ []
+unfolding axes counted firstWhere near magnitude thinned sortedInto insert keptAfter lt sub round
+three = refl
+
+pub twelve : Holds table
+twelve = (normal.examples .root-of-a-quarter, (normal.examples .exp-of-zero, (normal.examples .exp-far-below, (normal.examples .ln-of-one, (normal.examples .cdf-of-zero, (row-filled, (one-cell, (one-column, (two-columns, (three, (brent.examples .refused-12, (brent.examples .found-10, tt))))))))))))
