@@ -14,6 +14,9 @@ use Rattle.normal.proofs.Pattern.{ofBits-normal}
 pub root-lt : (q b : ℕ) → q * q < b * b → q < b
 root-lt q b h = lt-of-not-le (λ (g : b ≤ q). lt-irrefl (b * b) (lt-of-le-of-lt (mul-le-mul g g) h))
 
+pub below-60 : (q rem x : ℕ) → q * q + rem ≡ x → x < 18014398509481984 * 18014398509481984 → q < 2 ^ 60
+below-60 q rem x e h = let l = root-lt q 18014398509481984 (omega arith) in omega arith
+
 pub all-shifted : (t : ℕ) → t < 2 ^ 54 → t / 2 ^ (2 * 27) ≡ 0
 all-shifted t h = div-eq-of-lt h
 

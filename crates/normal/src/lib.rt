@@ -260,10 +260,10 @@ fn step(q: u64, rem: u64, d: u64) -> Rooted
     }
 }
 
-// The whole root of t * 2^54.
-fn root(t: u64) -> u64
+// The whole root of t, and what is left: two binary digits of t a round.
+fn leading(t: u64) -> Rooted
     requires { ⌜ t < 2 ^ 54 ⌝ }
-    ensures { λ q. ⌜ (q * q ≤ t * 2 ^ 54) × (t * 2 ^ 54 < (q + 1) * (q + 1)) ⌝ }
+    ensures { λ r. ⌜ (r .q * r .q + r .rem ≡ t) × (r .rem ≤ 2 * r .q) ⌝ }
 {
     let mut q: u64 = 0;
     let mut rem: u64 = 0;
@@ -274,6 +274,17 @@ fn root(t: u64) -> u64
         q = s.q;
         rem = s.rem;
     }
+    Rooted { q, rem }
+}
+
+// The whole root of t * 2^54: 27 rounds more, whose digits are 0.
+fn root(t: u64) -> u64
+    requires { ⌜ t < 2 ^ 54 ⌝ }
+    ensures { λ q. ⌜ (q * q ≤ t * 2 ^ 54) × (t * 2 ^ 54 < (q + 1) * (q + 1)) ⌝ }
+{
+    let first = leading(t);
+    let mut q = first.q;
+    let mut rem = first.rem;
     let mut n: u64 = 0;
     while n < 27 {
         let s = step(q, rem, 0);
