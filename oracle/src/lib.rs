@@ -1,0 +1,2 @@
+pub mod reference;
+include!(concat!(env!("OUT_DIR"), "/fin_primitives.rs"));
