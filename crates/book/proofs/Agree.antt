@@ -1,5 +1,5 @@
 -- The book agrees with the plain tally, and one offer keeps it so: both go by the same tests, of figures that are the same. Assumes nothing.
-use mathlib.Core.Path.{_≡_, refl}
+use mathlib.Core.Path.{_≡_, refl, ap, _∙_}
 use Prim.Native.Nat.{_+_, _*_, _≤_}
 use native.Mathlib.Omega.{arith}
 use mathlib.Core.Bool.{Bool, true, false, not, _||_}
@@ -101,17 +101,12 @@ accepted-rate opening = go (isSpot (opening .spot)) (isRate (opening .rate))
     go false b e = absurd (omega arith)
 
 -- 2 never holds
+in-bounds : {a b c d e f : Bool} → a ≡ false → b ≡ true → c ≡ false → d ≡ false → e ≡ true → f ≡ true → (a || not b || c || d || not e || not f) ≡ false
+in-bounds p q r s t u = rw (p, q, r, s, t, u)
+
 pub unbroken : (opening : Opening) (was : Columns) (l : Ledger) (t : Tally) → openRefusal opening ≡ none → Agree opening was l t → isBroken (l .book) ≡ false
 unfolding isBroken
 unbroken opening was l t ok a =
     let b = l .book in
-    rw (
-      le-ltb 1024 (b .kept) (a .room),
-      eq-eqb (b .kept + b .refused) (b .heard) (a .total),
-      le-ltb 60000 (b .heard) (a .few),
-      le-ltb (52 * b .heard) (b .evaluations) (a .cost),
-      a .spot,
-      a .rate,
-      accepted-spot opening ok,
-      accepted-rate opening ok,
-    )
+    in-bounds (le-ltb 1024 (b .kept) (a .room)) (eq-eqb (b .kept + b .refused) (b .heard) (a .total)) (le-ltb 60000 (b .heard) (a .few)) (le-ltb (52 * b .heard) (b .evaluations) (a .cost))
+    (ap isSpot (a .spot) ∙ accepted-spot opening ok) (ap isRate (a .rate) ∙ accepted-rate opening ok)

@@ -5,7 +5,7 @@ use Prim.Native.Nat.{ℕ, _-_, _*_, _≤_, _<_}
 use native.Mathlib.Nat.{eq-or-lt-of-le}
 use native.Mathlib.Omega.{arith}
 use mathlib.Core.Bool.{Bool, true, false, not, _||_}
-use mathlib.Core.List.{List}
+use mathlib.Core.List.{List, [], _∷_, List·Memᴰ, List·Memᴰ·not-nil, List·Memᴰ·cases-cons}
 use mathlib.Core.Option.{Option, some}
 use mathlib.Core.Option as Option
 use lib.Dec.{ltb}
@@ -17,8 +17,11 @@ use Rattle.floats.proofs.Tests.{or-right-false}
 use Rattle.limits.specs.Checks.{first, none}
 use Rattle.grid.specs.Answers.{answered, unlessRefused}
 use Rattle.surface.specs.Quotes.{Quote, quotes, allInRange}
-use Rattle.surface.specs.Cells.{axes, count, mean, leftward, rightward, either, source, cell}
+use Rattle.surface.specs.Axis.{place}
+use Rattle.surface.specs.Cells.{Axes, axes, Housed, count, mean, leftward, rightward, either, source, cell}
 use Rattle.surface.specs.Build.{front, table, lengths, noLengths, refusal}
+use Rattle.surface.proofs.Housing.{meaning}
+use Rattle.surface.proofs.Layouts.{table-length, table-at, table-else}
 use Rattle.surface.proofs.Neighbour.{Left, Right, left-is, right-is}
 use Rattle.book.specs.Model.{Opening}
 use Rattle.book.specs.Tally.{Tally}
@@ -26,8 +29,6 @@ use Rattle.book.specs.Book.{Columns, openRefusal, isShort}
 use Rattle.book.specs.Build.{Buffers, quotesOf, buildRefusal, buildOutcome, buffersAfter}
 use Rattle.book.specs.Claim.{Ledger, Neighbour, left, right, surfaceRefusal, rows, columns, SurfaceClaim, BuildClaim}
 use Rattle.book.proofs.Agree.{Agree, or-left-false, same-short, unbroken}
-use Rattle.book.proofs.SurfaceCells.{housed-one, once-each, row-busy}
-use Rattle.book.proofs.SurfaceTable.{table-length, table-at, table-rest}
 
 -- ---- where a cell's mean comes from
 own-source : (c : ℕ → ℕ) (w j : ℕ) → 0 < c j → source c w j ≡ j
@@ -52,6 +53,17 @@ unfolding source
 neighbour c w j b z h g p =
     rw (le-ltb 0 (c j) (omega arith)) (found-in c w j b (leftward c j) (rightward c j (w - j)) z h g p (left-is c j) (right-is c j (w - j) w (omega arith)))
 
+-- ---- the cell of one quote
+abbrev Inside : Axes → Quote → Type 0
+Inside x q = (place (x .expiries) (q .expiry) < length (x .expiries)) × (place (x .strikes) (q .strike) < length (x .strikes))
+
+inside : (x : Axes) (q : Quote) (qs : List Quote) → Housed x qs → List·Memᴰ q qs → Inside x q
+inside x q [] h m = absurd (List·Memᴰ·not-nil m)
+inside x q (p ∷ qs) h m = elim (List·Memᴰ·cases-cons m) [
+  | inl e ↦ subst (Inside x) (sym e) (h .0, h .1)
+  | inr n ↦ inside x q qs (h .2) n
+]
+
 -- ---- the surface of quotes in range, in buffers that are long enough
 module _ (qs : List Quote) (s : Buffers) where
   abbrev surfaceAfter : Buffers
@@ -67,28 +79,29 @@ module _ (qs : List Quote) (s : Buffers) where
   unfolding cell
   surface-claim ranged narrow low grid counts =
       let x = axes qs in
+      let means = meaning qs ranged in
       let g : 64 * rows qs s ≤ length (s .grid) = omega arith in
       let n : 64 * rows qs s ≤ length (s .counts) = omega arith in
       record {
         strikes = take-append-seam (x .strikes) (drop (columns qs s) (s .strikes));
         expiries = take-append-seam (x .expiries) (drop (rows qs s) (s .expiries));
-        housed = λ m. housed-one qs ranged m;
-        counts = λ i j a b. table-at (λ i j. count x i j qs) (columns qs s) (s .counts) narrow (rows qs s) i j 0 n a b;
-        once = once-each qs ranged;
+        housed = λ m. inside x _ qs (means .housed) m;
+        counts = λ i j a b. table-at (λ i j. count x i j qs) (columns qs s) narrow (s .counts) (rows qs s) i j 0 n a b;
+        once = means .once;
         means = λ i j a b c.
-            table-at (cell x qs) (columns qs s) (s .grid) narrow (rows qs s) i j nan g a b
+            table-at (cell x qs) (columns qs s) narrow (s .grid) (rows qs s) i j nan g a b
             ∙ ap (λ (k : ℕ). mean x i k qs) (own-source (λ k. count x i k qs) (columns qs s) j c);
         neighbours = λ i j a b z.
-            let y = row-busy qs i ranged a in (
+            let y = means .row-counted i a in (
               source (λ k. count x i k qs) (columns qs s) j,
-              neighbour (λ k. count x i k qs) (columns qs s) j (y .column) z b (y .inside) (y .counts),
-              table-at (cell x qs) (columns qs s) (s .grid) narrow (rows qs s) i j nan g a b,
+              neighbour (λ k. count x i k qs) (columns qs s) j (y .0) z b (y .1) (y .2),
+              table-at (cell x qs) (columns qs s) narrow (s .grid) (rows qs s) i j nan g a b,
             );
         rest-strikes = drop-append-seam (x .strikes) (drop (columns qs s) (s .strikes));
         rest-expiries = drop-append-seam (x .expiries) (drop (rows qs s) (s .expiries));
-        rest-grid = λ p o. table-rest (cell x qs) (columns qs s) (s .grid) narrow (rows qs s) p nan g o;
-        rest-counts = λ p o. table-rest (λ i j. count x i j qs) (columns qs s) (s .counts) narrow (rows qs s) p 0 n o;
-        same-lengths = (table-length (cell x qs) (columns qs s) (s .grid) narrow (rows qs s) g, table-length (λ i j. count x i j qs) (columns qs s) (s .counts) narrow (rows qs s) n);
+        rest-grid = λ p o. table-else (cell x qs) (columns qs s) narrow (s .grid) (rows qs s) p nan g (λ i j a b e. o i j a b (sym e));
+        rest-counts = λ p o. table-else (λ i j. count x i j qs) (columns qs s) narrow (s .counts) (rows qs s) p 0 n (λ i j a b e. o i j a b (sym e));
+        same-lengths = (table-length (cell x qs) (columns qs s) narrow (s .grid) (rows qs s) g, table-length (λ i j. count x i j qs) (columns qs s) narrow (s .counts) (rows qs s) n);
       }
 
 -- ---- the checks of a build

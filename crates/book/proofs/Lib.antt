@@ -3,10 +3,6 @@ pub mod Quoted
 pub mod Agree
 pub mod Once
 pub mod Lists
-pub mod SurfaceNear
-pub mod SurfaceAxis
-pub mod SurfaceCells
-pub mod SurfaceTable
 pub mod Builds
 pub mod Demand3
 pub mod TeethSurface

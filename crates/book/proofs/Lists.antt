@@ -51,7 +51,7 @@ module _ (model : Model) (opening : Opening) (was : Columns) (ok : openRefusal o
         agree = h .agree;
         accepted = λ i. n .accepted i ∷ h .accepted i;
         numbers = λ i. s .number i ∷ h .numbers i;
-        reported = omega (arith, h .reported, n .reported);
+        reported = omega arith;
         volatilities = h .volatilities ∙ rw (n .volatilities, append-assoc) (ap (λ (vs : List Float). map volatilityIn (t .quotes) ++ vs) (found-cons (offerOutcome model (l .columns) (l .book) o) (replies model (hear model l o) os)));
         evidence = (s .evidence, h .evidence);
       }

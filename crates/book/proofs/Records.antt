@@ -5,15 +5,10 @@ use Prim.Native.Nat.{ℕ, _+_, _*_, _≤_, _<_}
 use lib.Dec.{ltb, leb, eqb}
 use borrow.Author.Tests.{ltb-false, eqb-true, leb-false, not-false}
 use Rattle.floats.specs.Operators.{if_then_else_}
-use Rattle.floats.proofs.Tests.{or-right-false}
 use Rattle.limits.specs.Ranges.{isSpot, isRate}
 use Rattle.limits.specs.Checks.{first, none}
 use Rattle.book.specs.Book.{isBroken, entryRefusal}
 use Rattle.book.specs.declared.Book.{Book}
-
-or-left-false : (a b : Bool) → (a || b) ≡ false → a ≡ false
-or-left-false true b h = h
-or-left-false false b h = refl
 
 -- ---- a record in bounds
 pub record Bounds (b : Book) : Type 0 where

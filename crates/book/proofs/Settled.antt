@@ -1,16 +1,16 @@
 -- An offer past check 4: the book's answer and the tally's account of it are alike, and the answer has its evidence. Assumes nothing.
 use mathlib.Core.Path.{_≡_, refl, sym, ap, _∙_, subst}
-use Prim.Native.Nat.{ℕ, _≤_}
+use Prim.Native.Nat.{ℕ, suc, _≤_}
 use native.Mathlib.Omega.{arith}
 use mathlib.Core.Bool.{Bool, true, false, not, _||_, true≢false}
-use lib.Dec.{leb, eqb}
+use lib.Dec.{leb, eqb, eqb·suc-zero}
 use lib.ListN.{length}
 use lib.Ieee.{Float}
 use Rattle.floats.specs.Operators.{if_then_else_}
 use Rattle.limits.specs.Ranges.{isPrice, isStrike, isExpiry, isVolatility}
 use Rattle.limits.specs.Checks.{first, none}
 use Rattle.limits.specs.Outcome.{Outcome, done, refused}
-use Rattle.brent.specs.Outcome.{Values, Reply, ended, zeros}
+use Rattle.brent.specs.Outcome.{Values, Reply, asking, ended, zeros}
 use Rattle.brent.specs.Feed.{over}
 use Rattle.brent.specs.Run.{Run, runWith}
 use Rattle.brent.proofs.Theorem.{claim as brent}
@@ -19,7 +19,7 @@ use Rattle.greeks.specs.declared.OptionType.{OptionType}
 use Rattle.book.specs.Model.{Opening, Model, Offer, volatility, priced, strikeOf, expiryOf}
 use Rattle.book.specs.Tally.{Fate, listed, turned, isBarred, fateOfRun, fate}
 use Rattle.book.specs.Book.{ownRefusal, endOf, answer}
-use Rattle.book.specs.Claim.{Evidence, numberOf}
+use Rattle.book.specs.Claim.{Evidence, numberOf, numberOfRun, numberPast4}
 
 -- ---- three lines of checks: what their number says of them
 record Lines (a b c : Bool) (number : ℕ) : Type 0 where
@@ -155,12 +155,29 @@ settles model opening (priced kind k t market) =
     let l = priced-lines (isPrice market) (isStrike k) (isExpiry t) in
     rw (l .barred) (priced-settled model opening kind k t market _ _ l refl)
 
--- the number of an answer past check 4
-pub settled-number : (model : Model) (opening : Opening) (o : Offer)
-    → first (not (eqb (ownRefusal o) none)) (ownRefusal o) (numberOf (answer model opening o)) ≡ numberOf (settled model opening o)
+-- ---- its number
+number-by : (a b c : Bool) (x y z rest : ℕ) → first a (suc x) (first b (suc y) (first c (suc z) rest))
+    ≡ (let own = first a (suc x) (first b (suc y) (first c (suc z) none)) in if eqb own none then rest else own)
 unfolding first
-settled-number model opening o = go (eqb (ownRefusal o) none)
-  where
-    go : (e : Bool) → (if not e then ownRefusal o else numberOf (answer model opening o)) ≡ numberOf (if e then answer model opening o else refused (ownRefusal o) (zeros 0))
-    go true = refl
-    go false = refl
+number-by true b c x y z rest = rw (eqb·suc-zero x)
+number-by false true c x y z rest = rw (eqb·suc-zero y)
+number-by false false true x y z rest = rw (eqb·suc-zero z)
+number-by false false false x y z rest = refl
+
+number-if : (e : Bool) (n own : ℕ) (r : Outcome Values) (x : Values) → n ≡ numberOf r → (if e then n else own) ≡ numberOf (if e then r else refused own x)
+number-if true n own r x h = h
+number-if false n own r x h = refl
+
+run-number : (r : Reply) → numberOfRun r ≡ numberOf (endOf r)
+unfolding numberOfRun endOf
+run-number (ended o s) = refl
+run-number (asking v s) = refl
+
+pub settled-number : (model : Model) (opening : Opening) (o : Offer) → numberPast4 model opening o ≡ numberOf (settled model opening o)
+unfolding numberPast4 ownRefusal answer
+settled-number model opening (volatility k t v) =
+    number-by (not (isStrike k)) (not (isExpiry t)) (not (isVolatility v)) 6 7 9 none
+    ∙ number-if (eqb (ownRefusal (volatility k t v)) none) none _ (answer model opening (volatility k t v)) (zeros 0) refl
+settled-number model opening (priced kind k t market) =
+    number-by (not (isPrice market)) (not (isStrike k)) (not (isExpiry t)) 4 6 7 _
+    ∙ number-if (eqb (ownRefusal (priced kind k t market)) none) _ _ (answer model opening (priced kind k t market)) (zeros 0) (run-number (runWith market (model opening kind k t) .reply))

@@ -18,7 +18,7 @@ use Rattle.book.specs.Build.{Buffers}
 use Rattle.book.specs.Claim.{Neighbour, left, right, rows, columns, countAt, SurfaceClaim}
 
 -- ---- a column has one neighbour, and where a counted column stands to the left that is on the left
-left-first : (c : ℕ → ℕ) (w j k b : ℕ) → b < j → 0 < c b → Neighbour c w j k → k < j
+pub left-first : (c : ℕ → ℕ) (w j k b : ℕ) → b < j → 0 < c b → Neighbour c w j k → k < j
 left-first c w j k b h p (left l q z) = l
 left-first c w j k b h p (right z l m q y) = absurd (omega (arith, z b h))
 

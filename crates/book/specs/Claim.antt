@@ -1,16 +1,17 @@
 -- Demand 3, "a single claim on the list and its build": for every model, accepted opening, columns and buffers of any content and length, and list of
 -- offers. A field for each sentence.
-use Prim.Native.Nat.{ℕ, zero, suc, _+_, _≤_, _<_}
+use Prim.Native.Nat.{ℕ, _+_, _≤_, _<_}
 use mathlib.Core.Path.{_≡_}
 use mathlib.Core.Bool.{Bool, true, false, not, _||_}
 use mathlib.Core.List.{List, [], _∷_, List·Memᴰ, map}
-use lib.Dec.{ltb, leb, eqb}
+use lib.Dec.{ltb, leb}
 use lib.ListN.{length, take, drop, getD}
 use lib.Ieee.{Float, nan}
 use Rattle.floats.specs.Operators.{decimal, _⊖_, if_then_else_}
+use Rattle.limits.specs.Ranges.{isPrice, isStrike, isExpiry, isVolatility}
 use Rattle.limits.specs.Checks.{first, none}
 use Rattle.limits.specs.Outcome.{Outcome, done, refused}
-use Rattle.brent.specs.Outcome.{Values, ended, zeros}
+use Rattle.brent.specs.Outcome.{Values, Reply, asking, ended, zeros}
 use Rattle.brent.specs.Feed.{over}
 use Rattle.brent.specs.Run.{runWith}
 use Rattle.brent.specs.Claim.{Success}
@@ -19,10 +20,11 @@ use Rattle.grid.specs.Layout.{cellAt}
 use Rattle.surface.specs.Quotes.{Quote}
 use Rattle.surface.specs.Axis.{place}
 use Rattle.surface.specs.Cells.{axes, count, mean}
+use Rattle.surface.specs.Meaning.{sumTo}
 use Rattle.surface.specs.Build.{Lengths, lengths, noLengths}
 use Rattle.book.specs.Model.{Opening, Model, Offer, volatility, priced}
 use Rattle.book.specs.Tally.{Tally, fresh as noQuotes, step, tally, grew}
-use Rattle.book.specs.Book.{Columns, fresh, openRefusal, opened, isShort, isBroken, ownRefusal, answer, offerOutcome, bookAfter, columnsAfter}
+use Rattle.book.specs.Book.{Columns, fresh, openRefusal, opened, isShort, isBroken, offerOutcome, bookAfter, columnsAfter}
 use Rattle.book.specs.Build.{Buffers, quotesOf, buildOutcome, buffersAfter}
 use Rattle.book.specs.declared.Book.{Book}
 
@@ -65,18 +67,37 @@ found [] = []
 found (done x ∷ rs) = x .volatility ∷ found rs
 found (refused number x ∷ rs) = found rs
 
--- ---- the number of each answer, read off the tally: the first check that holds, 2 never
+-- ---- the number of each answer, from the tally and the offer alone: the first check that holds, 2 never
 abbrev pub numberOf : Outcome Values → ℕ
 numberOf (done x) = none
 numberOf (refused number x) = number
 
+-- What a solver's run ended with. (It always ends: brent's theorem.)
+unfoldable pub numberOfRun : Reply → ℕ
+numberOfRun (ended o s) = numberOf o
+numberOfRun (asking v s) = none
+
+-- The checks past 4: 7, 8 and 10; or 5, 7, 8 and the solver's.
+unfoldable pub numberPast4 : Model → Opening → Offer → ℕ
+unfolding numberOfRun
+numberPast4 model opening (volatility strike expiry v) =
+    first (not (isStrike strike)) 7
+    (first (not (isExpiry expiry)) 8
+    (first (not (isVolatility v)) 10
+    none))
+numberPast4 model opening (priced kind strike expiry market) =
+    first (not (isPrice market)) 5
+    (first (not (isStrike strike)) 7
+    (first (not (isExpiry expiry)) 8
+    (numberOfRun (runWith market (model opening kind strike expiry) .reply))))
+
 unfoldable pub numberFrom : Model → Opening → Bool → Tally → Offer → ℕ
+unfolding numberPast4
 numberFrom model opening short t o =
     first short 1
     (first (leb 60000 (t .heard)) 3
     (first (leb 1024 (length (t .quotes))) 4
-    (first (not (eqb (ownRefusal o) none)) (ownRefusal o)
-    (numberOf (answer model opening o)))))
+    (numberPast4 model opening o)))
 
 unfoldable pub numbersFrom : Model → Opening → Bool → Tally → List Offer → List ℕ
 unfolding numberFrom
@@ -158,11 +179,6 @@ module _ (model : Model) (opening : Opening) (c : Columns) (os : List Offer) whe
   ListClaim = Agrees answers ledger (λ n. hearAll model first-ledger (take n os) .book)
 
 -- ---- the build
--- The quotes counted over all cells of a surface.
-unfoldable pub sumTo : ℕ → (ℕ → ℕ) → ℕ
-sumTo zero f = 0
-sumTo (suc n) f = sumTo n f + f n
-
 -- "the nearest counted cell to its left in the row, else to its right"
 pub data Neighbour (c : ℕ → ℕ) (w j k : ℕ) : Type 0 where
   left : k < j → 0 < c k → ((n : ℕ) → k < n → n < j → c n ≡ 0) → Neighbour c w j k

@@ -1,4 +1,4 @@
--- Points and steps stay finite: a round at most triples the exponent's room, and 50 rounds cannot use it up. Assumes nothing.
+-- Points and steps stay finite: a round adds at most 3 to the exponent that bounds them, and 50 rounds do not use up the range. Assumes nothing.
 use mathlib.Core.Path.{_≡_, refl, sym, ap, _∙_, subst}
 use Prim.Native.Nat.{ℕ, suc, _+_, _*_, _≤_, zero-le}
 use native.Mathlib.Nat.{zero-mul, zero-add, add-zero}

@@ -20,7 +20,7 @@ use Rattle.brent.specs.declared.Answer.the-variants.{Ask, Found, Refused
 use Rattle.brent.specs.Outcome.{Values, Reply, asking, ended, zeros, outcome}
 use Rattle.brent.specs.Feed.{over, fresh, refuse, ask, find, isSpent, feedNumber, start, feed}
 use Rattle.brent.specs.Run.{Tried, Run, tryNext, feedAll, feedWith, run, runWith}
-use Rattle.brent.specs.Claim.{Obtained, evaluationsOf, Given, five, eleven, twelve, thirteen, fourteen, Ran, Modelled, Fed, Claim}
+use Rattle.brent.specs.Claim.{Obtained, evaluationsOf, Given, five, eleven, twelve, thirteen, fourteen, Blank, Ran, Modelled, Fed, Claim}
 use Rattle.brent.proofs.Cases.{unspent, feed-by}
 use Rattle.brent.proofs.Invariant.{Live, lower, upper, later, Good, run-good}
 
@@ -44,9 +44,13 @@ reply-count market h (asking v s) g = let l = live-count market v h s (g .1) in 
 reply-count market h (ended (done x) s) g = let l = g .2 .at-most in (g .1, omega arith)
 reply-count market h (ended (refused k x) s) g = (unfold zeros in ap (λ (y : Values). y .evaluations) (g .1), given-below (g .2) .1)
 
-fed-over : (price : Float) → feed over price ≡ ended (refused 21 (zeros 0)) over
-unfolding feed feedNumber first isSpent over eq round
-fed-over price = refl
+when-spent : (s : Solver) (price : Float) → isSpent s ≡ true → feed s price ≡ ended (refused 21 (zeros 0)) s
+unfolding feed feedNumber first
+when-spent s price h = simp h
+
+over-spent : isSpent over ≡ true
+unfolding isSpent over eq round
+over-spent = refl
 
 ran : (market : Float) (r : Run) → Good market (r .tried) (r .reply) → Ran market r
 ran market r g =
@@ -58,7 +62,7 @@ ran market r g =
       started = λ e. at e .3 refl;
       never-21 = λ e. let l = given-below (at e .2) .0 in omega arith;
       ends = λ {o} {s} e. ended-over o s (at e);
-      after = λ {o} {s} e price. subst (λ (t : Solver). feed t price ≡ ended (refused 21 (zeros 0)) t) (sym (ended-over o s (at e))) (fed-over price);
+      after = λ {o} {s} e price. subst (λ (t : Solver). feed t price ≡ ended (refused 21 (zeros 0)) t) (sym (ended-over o s (at e))) (when-spent over price over-spent);
       success = λ e. at e .2;
     }
   where
@@ -183,6 +187,7 @@ fed : (s : Solver) (price : Float) → Fed s price
 fed s price =
     let k = answered s price in
     record {
+      when-spent = when-spent s price;
       only-spent = λ e. k .spent (ap number-of e) .0;
       handed-back = λ {x} {t} e. back x t (sym (k .spent (ap number-of e) .1) ∙ e);
       ends = λ h e. k .left h e;
@@ -219,10 +224,15 @@ determined (Refused j n s) (Ask w t) e = absurd (let z : _≡_ {A = ℕ} 0 1 = c
 determined (Refused j n s) (Found w x c y m t) e = absurd (let z : _≡_ {A = ℕ} 0 1 = cc in omega arith)
 determined (Refused j n s) (Refused k m t) e = refused-alike j n s k m t e
 
+blank : (n : ℕ) → Blank n (zeros n)
+unfolding zeros
+blank n = record { volatility = refl; error = refl; c = refl; c-error = refl; evaluations = refl }
+
 -- THE THEOREM
 pub claim : Claim
 claim =
     record {
+      blank = blank;
       determined = determined;
       listed = λ market prices. ran market (run market prices) (run-good market prices);
       modelled = λ market price. modelled price market;

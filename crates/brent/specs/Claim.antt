@@ -63,6 +63,14 @@ pub data Given : ℕ → ℕ → Type 0 where
   thirteen : Given 13 (2 + 50)
   fourteen : {n : ℕ} → 2 ≤ n → n ≤ 51 → Given 14 n
 
+-- "A refusal's value fields are 0.0 and its own counts 0, except all the evaluations made": n of them.
+pub record Blank (n : ℕ) (x : Values) : Type 0 where
+  pub volatility : x .volatility ≡ decimal 0 1
+  pub error : x .error ≡ decimal 0 1
+  pub c : x .c ≡ decimal 0 1
+  pub c-error : x .c-error ≡ decimal 0 1
+  pub evaluations : x .evaluations ≡ n
+
 -- Of every run from a fresh solver.
 pub record Ran (market : Float) (r : Run) : Type 0 where
   -- "An evaluation is one price obtained .. 2 for the ends, then one a round", and never more than 52.
@@ -89,7 +97,8 @@ pub record Modelled (market : Float) (price : Float → Float) (r : Run) : Type 
 
 -- Of a feed, whatever the state.
 pub record Fed (s : Solver) (price : Float) : Type 0 where
-  -- 21 is for a solver that ended or holds too much, "and 21 hands a state back unaltered"
+  -- 21 is for a solver that ended or holds too much, and for no other, "and 21 hands a state back unaltered"
+  pub when-spent : isSpent s ≡ true → feed s price ≡ ended (refused 21 (zeros 0)) s
   pub only-spent : {x : Values} {t : Solver} → feed s price ≡ ended (refused 21 x) t → isSpent s ≡ true
   pub handed-back : {x : Values} {t : Solver} → feed s price ≡ ended (refused 21 x) t → (t ≡ s) × (x ≡ zeros 0)
   -- any other end leaves nothing but zeros
@@ -98,6 +107,7 @@ pub record Fed (s : Solver) (price : Float) : Type 0 where
   pub after-50 : {x : Values} {t : Solver} → feed s price ≡ ended (refused 13 x) t → s .rounds ≡ 50
 
 pub record Claim : Type 0 where
+  pub blank : (n : ℕ) → Blank n (zeros n)
   -- Nothing of an answer is lost in its reading.
   pub determined : (a b : Answer) → outcome a ≡ outcome b → a ≡ b
   pub listed : (market : Float) (prices : List Float) → Ran market (run market prices)

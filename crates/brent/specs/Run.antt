@@ -14,7 +14,7 @@ pub record Run : Type 0 where
   pub reply : Reply
   pub tried : List Tried
 
--- The rest of a run, where the last reply is r.
+-- A point tried, and then the rest of the run.
 abbrev pub tryNext : Float → Float → Run → Run
 tryNext v price rest = record { reply = rest .reply; tried = record { at = v; price = price } ∷ rest .tried }
 

@@ -1,0 +1,12 @@
+pub mod Patterns
+pub mod Digits
+pub mod Writing
+pub mod Parts
+pub mod Streams
+pub mod Split
+pub mod Sizes
+pub mod Backward
+pub mod Unique
+pub mod Claims
+pub mod Examples
+pub mod Moves
