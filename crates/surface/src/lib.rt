@@ -113,11 +113,11 @@ fn near(a: f64, x: f64) -> bool
 fn place(axis: &[f64], x: f64) -> usize
     ensures { λ r. ⌜ r ≡ place (now (axis .entry)) x ⌝ }
 {
-    let n = axis.len();
+    let size = axis.len();
     let mut i = 0;
     let at = loop {
-        if i >= n {
-            break n;
+        if i >= size {
+            break size;
         }
         if near(axis[i], x) {
             break i;

@@ -10,10 +10,10 @@ use Rattle.surface.proofs.place.Statement.{statement}
 use Rattle.surface.proofs.place.Tie as tie
 
 abbrev Inv-loop : tie.InvT-loop
-Inv-loop axis x n i₀ i = (n ≡ length axis) × (i ≤ n) × Looking (λ a. near a x) axis n nan i
+Inv-loop axis x size i₀ i = (size ≡ length axis) × (i ≤ size) × Looking (λ a. near a x) axis size nan i
 
 abbrev μ-loop : tie.MeasureT-loop
-μ-loop axis x n i₀ i = n - i
+μ-loop axis x size i₀ i = size - i
 
 loop-holds : tie.Need-loop-holds Inv-loop μ-loop
 loop-holds c = (refl, omega arith, look-start _ (c .before .args .axis .now) (length (c .before .args .axis .now)) nan)
