@@ -97,11 +97,55 @@ pub fn erfc(v: f64) -> f64 {
     (exp(-(v * v)) * 0.5641895835477563) / c
 }
 
+/// The 53 leading binary digits of a float above 0, and how many digits it has in units of 2^-1074.
+fn taken_apart(v: f64) -> (u64, u64) {
+    let bits = v.to_bits();
+    let field = bits >> 52;
+    if field == 0 {
+        let zeros = u64::from(bits.leading_zeros());
+        (bits << (zeros - 11), 64 - zeros)
+    } else {
+        (bits % (1 << 52) + (1 << 52), field + 52)
+    }
+}
+
+/// One more binary digit of a root, for two more digits d of the number under it.
+#[inline]
+fn step(q: u64, rest: u64, d: u64) -> (u64, u64) {
+    let r = 4 * rest + d;
+    if 4 * q < r {
+        (2 * q + 1, r - (4 * q + 1))
+    } else {
+        (2 * q, r)
+    }
+}
+
+/// The root as ours computes it, digit by digit: for the benchmark, so that both sides have the same root. It is correctly rounded too.
+pub fn sqrt_by_digits(v: f64) -> f64 {
+    if v.is_nan() || v == 0.0 || v == f64::INFINITY {
+        return v;
+    }
+    if v < 0.0 {
+        return f64::NAN;
+    }
+    let (digits, size) = taken_apart(v);
+    let t = if size % 2 == 0 { 2 * digits } else { digits };
+    let (mut q, mut rest) = (0, 0);
+    for i in (0..27).rev() {
+        (q, rest) = step(q, rest, (t >> (2 * i)) % 4);
+    }
+    for _ in 0..27 {
+        (q, rest) = step(q, rest, 0);
+    }
+    f64::from_bits((q + 1) / 2 + ((size + 969) / 2) * (1 << 52))
+}
+
 /// The methods that the substitution calls in place of the standard ones.
 pub trait Document01 {
     fn exp_01(self) -> f64;
     fn ln_01(self) -> f64;
     fn sqrt_01(self) -> f64;
+    fn sqrt_digits(self) -> f64;
 }
 
 impl Document01 for f64 {
@@ -117,5 +161,9 @@ impl Document01 for f64 {
     #[inline]
     fn sqrt_01(self) -> f64 {
         self.sqrt()
+    }
+    #[inline]
+    fn sqrt_digits(self) -> f64 {
+        sqrt_by_digits(self)
     }
 }

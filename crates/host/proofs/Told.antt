@@ -1,0 +1,89 @@
+-- What a host is told is the outcome, where no refusal has the number 0: of a chain of checks none has, and of a solver none. Assumes nothing.
+use mathlib.Core.Path.{_≡_, refl}
+use mathlib.Core.Bool.{Bool, true, false}
+use mathlib.Core.List.{List}
+use Prim.Native.Nat.{ℕ}
+use native.Mathlib.Omega.{arith}
+use lib.Dec.{eqb}
+use lib.Ieee.{Float}
+use borrow.Author.Tests.{ne-eqb, eqb-false}
+use Rattle.floats.specs.Operators.{decimal, if_then_else_}
+use Rattle.limits.specs.Checks.{none}
+use Rattle.limits.specs.Outcome.{Outcome, done, refused}
+use Rattle.brent.specs.Outcome.{Values, ended, zeros}
+use Rattle.brent.specs.Feed.{over as finished}
+use Rattle.brent.specs.Run.{runWith}
+use Rattle.greeks.specs.Model.{price}
+use Rattle.greeks.specs.Greeks.{greeks}
+use Rattle.greeks.specs.Checks.{refusal, pricing, noGreeks, sensitivities}
+use Rattle.greeks.specs.Implied.{impliedRefusal, implied}
+use Rattle.greeks.specs.declared.OptionParams.{OptionParams}
+use Rattle.grid.specs.Answers.{answered}
+use Rattle.grid.specs.Readings.{reading}
+use Rattle.book.specs.Book.{endOf}
+use Rattle.book.specs.Calls.{Ended}
+use Rattle.book.proofs.Solver.{run-ended}
+use Rattle.host.specs.Answers.{told, over, numberOf, valuesOf}
+
+-- A refusal has a number.
+abbrev pub Numbered : {X : Type 0} → Outcome X → Type 0
+Numbered (done x) = Unit {0}
+Numbered (refused number x) = number ≡ none → ⊥
+
+-- A number and values that are those of o tell o.
+told-back : {X Y : Type 0} (f : X → Y) (o : Outcome X) → Numbered o → told (numberOf o) (f (valuesOf o)) ≡ over f o
+unfolding told over numberOf valuesOf
+told-back f (done x) h = refl
+told-back f (refused number x) h = simp (ne-eqb number none h)
+
+over-same : {X : Type 0} (o : Outcome X) → over (λ x. x) o ≡ o
+unfolding over
+over-same (done x) = refl
+over-same (refused number x) = refl
+
+module _ {X : Type 0} (a o : Outcome X) (answers : a ≡ o) (h : Numbered o) where
+  pub told-over : {Y : Type 0} (f : X → Y) (n : ℕ) (values : Y) → n ≡ numberOf a → values ≡ f (valuesOf a) → told n values ≡ over f o
+  told-over f n values p q = rw (p, q, answers) (told-back f o h)
+
+  pub told-same : (n : ℕ) (values : X) → n ≡ numberOf a → values ≡ valuesOf a → told n values ≡ o
+  told-same n values p q = rw (← over-same o) (told-over (λ x. x) n values p q)
+
+-- The answer to a chain of checks.
+numbered : {X : Type 0} (n : ℕ) (values zeros : X) → Numbered (if eqb n none then done values else refused n zeros)
+numbered n values zeros = go (eqb n none) refl
+  where
+    go : (b : Bool) → eqb n none ≡ b → Numbered (if b then done values else refused n zeros)
+    go true e = tt
+    go false e = eqb-false n none e
+
+pub numbered-answer : {X : Type 0} (n : ℕ) (zeros values : X) → Numbered (answered n zeros values)
+unfolding answered
+numbered-answer n zeros values = numbered n values zeros
+
+pub numbered-pricing : (p : OptionParams) → Numbered (pricing p)
+unfolding pricing
+numbered-pricing p = numbered (refusal p) (price (p .«option_type») (p .spot) (p .«risk_free_rate») (p .strike) (p .«time_to_expiry») (p .volatility)) (decimal 0 1)
+
+pub numbered-sensitivities : (p : OptionParams) → Numbered (sensitivities p)
+unfolding sensitivities
+numbered-sensitivities p = numbered (refusal p) (greeks (p .«option_type») (p .spot) (p .«risk_free_rate») (p .strike) (p .«time_to_expiry») (p .volatility)) noGreeks
+
+pub numbered-reading : (strikeAxis expiryAxis grid : List Float) (strikes expiries : ℕ) (strike expiry : Float) → Numbered (reading strikeAxis expiryAxis grid strikes expiries strike expiry)
+unfolding reading
+numbered-reading strikeAxis expiryAxis grid strikes expiries strike expiry = numbered-answer _ _ _
+
+-- What a solver ends with.
+numbered-end : (o : Outcome Values) → Ended o → Numbered o
+numbered-end (done x) h = tt
+numbered-end (refused number x) h = λ (e : number ≡ none). omega arith
+
+pub numbered-implied : (market : Float) (p : OptionParams) → Numbered (endOf (implied market p))
+unfolding implied endOf
+numbered-implied market p = go (eqb (impliedRefusal market p) none) refl
+  where
+    prices : Float → Float
+    prices = price (p .«option_type») (p .spot) (p .«risk_free_rate») (p .strike) (p .«time_to_expiry»)
+
+    go : (b : Bool) → eqb (impliedRefusal market p) none ≡ b → Numbered (endOf (if b then runWith market prices .reply else ended (refused (impliedRefusal market p) (zeros 0)) finished))
+    go true e = numbered-end (endOf (runWith market prices .reply)) (run-ended market prices)
+    go false e = eqb-false (impliedRefusal market p) none e

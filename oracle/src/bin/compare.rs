@@ -1,0 +1,969 @@
+//! Asks ours and the Rust the same questions and compares every answer: values by bits (a not-a-number equals every other), refusals as document 01
+//! maps them. Where 01 turns a question down that the Rust answers otherwise, the class is counted, named by 01's check and what is wrong with the
+//! input, and shown with the smallest input found. Anything else that differs is printed and fails the command.
+//!
+//!     compare [questions of each kind] [seed]
+#[path = "../ours.rs"]
+mod ours;
+
+use oracle::checks::{self, cause, Check};
+use oracle::greeks_noted::{bsm_greeks, bsm_price, implied_volatility, GreekError, OptionParams};
+use oracle::questions::{self, Asked, Family, Made, Offers, Quotes, FAMILIES, FUNCTIONS, MARKET, OPTION};
+use oracle::random::Random;
+use oracle::surface_noted::{VolPoint, VolSurface};
+use oracle::{greeks_noted, normal, notes, reference};
+use ours::{Buffers, Tray};
+use std::collections::BTreeMap;
+use std::panic::{catch_unwind, set_hook, AssertUnwindSafe};
+
+// ---- verdicts
+
+/// Both answer alike (and how), or 01's check is why they do not, or nothing is. A class is its check, what is wrong with the input, and what the
+/// Rust does; `answer` is what the Rust said to this very question.
+enum Verdict {
+    Same(String),
+    Differs { class: Class, answer: String },
+    Unlisted(String),
+}
+use Verdict::*;
+
+type Class = (u64, String, &'static str);
+
+fn differs(check: u64, cause: impl Into<String>, rust: &'static str, answer: impl Into<String>) -> Verdict {
+    Differs { class: (check, cause.into(), rust), answer: answer.into() }
+}
+
+/// Why 01 turns such a question down: the differences that follow from document 01, and no others.
+fn reason(check: u64, cause: &str) -> Option<&'static str> {
+    let blank = cause.ends_with("not-a-number");
+    Some(match check {
+        1 | 15 => "lent memory is ours: the Rust allocates its own",
+        2 if cause.starts_with("more than") => "01's largest surface; the Rust's has no limit",
+        2 if blank => "01's ranges of kept quotes, which no not-a-number passes; the Rust builds from any numbers",
+        2 => "01's ranges of kept quotes; the Rust builds from any numbers",
+        5 => "01 asks for a finite price; the Rust's guard is `market_price <= 0.0`",
+        6..=8 | 10 if blank => "01's range, which no not-a-number passes; the Rust's guard is `<= 0.0`, which it passes",
+        6..=8 | 10 => "01's range; the Rust asks only for more than 0",
+        9 if blank => "01's range, which no not-a-number passes; the Rust takes any rate",
+        9 => "01's range; the Rust takes any rate",
+        11 => "01: a price minus the market price is not finite; the Rust goes on",
+        14 => "01's range of an answer; the Rust has none",
+        16 => "01's axis of at most 64 strikes; the Rust's has no limit",
+        17 => "01's axis of at most 32 expiries; the Rust's has no limit",
+        18 => "01 reads only axes that are finite and strictly ascending; the Rust reads any",
+        19 | 20 if blank => "01 turns down a not-a-number read; both of the Rust's boundary tests pass it",
+        _ => return None,
+    })
+}
+
+fn same_bits(x: f64, y: f64) -> bool {
+    x.to_bits() == y.to_bits() || (x.is_nan() && y.is_nan())
+}
+
+fn all_same(xs: &[f64], ys: &[f64]) -> bool {
+    xs.len() == ys.len() && xs.iter().zip(ys).all(|(x, y)| same_bits(*x, *y))
+}
+
+fn zeros(xs: &[f64]) -> bool {
+    xs.iter().all(|x| x.to_bits() == 0)
+}
+
+// ---- what is asked: how it is made smaller, and how it is shown
+
+trait Question: Clone {
+    /// Smaller questions, each by a measure that cannot fall for ever.
+    fn smaller(&self) -> Vec<Self>;
+    fn shown(&self) -> String;
+}
+
+fn shrunk<Q: Question>(mut q: Q, same: impl Fn(&Q) -> bool) -> Q {
+    while let Some(smaller) = q.smaller().into_iter().find(|s| same(s)) {
+        q = smaller;
+    }
+    q
+}
+
+fn show(x: f64) -> String {
+    let plain = format!("{x:?}");
+    if x.is_nan() {
+        "not-a-number".to_string()
+    } else if plain.len() <= 8 {
+        plain
+    } else {
+        format!("{plain} ({:016X})", x.to_bits())
+    }
+}
+
+const SIMPLE: [f64; 17] = [1.0, 0.0, 2.0, 0.5, 0.25, 3.0, 10.0, 20.0, 100.0, 200.0, f64::NAN, f64::INFINITY, -1.0, -2.0, f64::NEG_INFINITY, 2e9, 1e-7];
+
+/// The fewer digits, the smaller.
+fn cost(x: f64, usual: f64) -> usize {
+    if x.to_bits() == usual.to_bits() {
+        return 0;
+    }
+    match SIMPLE.iter().position(|s| s.to_bits() == x.to_bits()) {
+        Some(i) => 1 + i,
+        None if x.is_nan() => 99,
+        None => 100 + format!("{x:e}").len() + usize::from(x < 0.0),
+    }
+}
+
+fn simpler(x: f64, usual: f64) -> Vec<f64> {
+    let mut out = vec![usual];
+    out.extend(SIMPLE);
+    if x.is_finite() {
+        out.extend((0..18).filter_map(|d| format!("{x:.d$e}").parse::<f64>().ok()));
+    }
+    out.retain(|y| cost(*y, usual) < cost(x, usual));
+    out.sort_by_key(|y| cost(*y, usual));
+    out
+}
+
+#[derive(Clone)]
+struct One(usize, f64);
+
+impl Question for One {
+    fn smaller(&self) -> Vec<Self> {
+        simpler(self.1, 1.0).into_iter().map(|x| One(self.0, x)).collect()
+    }
+    fn shown(&self) -> String {
+        format!("{}({})", FUNCTIONS[self.0], show(self.1))
+    }
+}
+
+/// An option's question with the names of its values and what they usually are.
+#[derive(Clone)]
+struct Named(Asked, [&'static str; 5], [f64; 5]);
+
+const USUAL_OPTION: [f64; 5] = [100.0, 100.0, 1.0, 0.0, 0.25];
+const USUAL_MARKET: [f64; 5] = [10.0, 100.0, 100.0, 1.0, 0.0];
+
+impl Question for Named {
+    fn smaller(&self) -> Vec<Self> {
+        let mut out = Vec::new();
+        if self.0.put {
+            let mut q = self.clone();
+            q.0.put = false;
+            out.push(q);
+        }
+        for i in 0..5 {
+            for x in simpler(self.0.values[i], self.2[i]) {
+                let mut q = self.clone();
+                q.0.values[i] = x;
+                out.push(q);
+            }
+        }
+        out
+    }
+    fn shown(&self) -> String {
+        let values: Vec<String> = (0..5).map(|i| format!("{} {}", self.1[i], show(self.0.values[i]))).collect();
+        format!("{}, {}", if self.0.put { "put" } else { "call" }, values.join(", "))
+    }
+}
+
+impl Question for Quotes {
+    fn smaller(&self) -> Vec<Self> {
+        let mut out = Vec::new();
+        let n = self.len();
+        let mut size = n;
+        while size > 0 {
+            for from in (0..n).step_by(size) {
+                let mut q = self.clone();
+                q.remove(from, (from + size).min(n));
+                out.push(q);
+            }
+            size /= 2;
+        }
+        if n <= 4 {
+            for i in 0..n {
+                for x in simpler(self.strikes[i], 100.0) {
+                    let mut q = self.clone();
+                    q.strikes[i] = x;
+                    out.push(q);
+                }
+                for x in simpler(self.expiries[i], 1.0) {
+                    let mut q = self.clone();
+                    q.expiries[i] = x;
+                    out.push(q);
+                }
+                for x in simpler(self.volatilities[i], 0.25) {
+                    let mut q = self.clone();
+                    q.volatilities[i] = x;
+                    out.push(q);
+                }
+            }
+        }
+        out
+    }
+    fn shown(&self) -> String {
+        let quote = |i: usize| format!("({}, {}, {})", show(self.strikes[i]), show(self.expiries[i]), show(self.volatilities[i]));
+        let most = self.len().min(6);
+        let quotes: Vec<String> = (0..most).map(quote).collect();
+        format!("{} quotes: {}{}", self.len(), quotes.join(" "), if most < self.len() { " .." } else { "" })
+    }
+}
+
+/// A reading of the surface that quotes make, or of one made by hand.
+#[derive(Clone)]
+struct Read<S> {
+    of: S,
+    strike: Option<f64>,
+    expiry: f64,
+}
+
+impl<S: Question> Question for Read<S> {
+    fn smaller(&self) -> Vec<Self> {
+        let mut out: Vec<Self> = self.of.smaller().into_iter().map(|of| Read { of, ..self.clone() }).collect();
+        if let Some(strike) = self.strike {
+            out.extend(simpler(strike, 100.0).into_iter().map(|x| Read { strike: Some(x), ..self.clone() }));
+        }
+        out.extend(simpler(self.expiry, 1.0).into_iter().map(|x| Read { expiry: x, ..self.clone() }));
+        out
+    }
+    fn shown(&self) -> String {
+        let strike = self.strike.map_or("at the money".to_string(), |k| format!("strike {}", show(k)));
+        format!("{}; read {strike}, expiry {}", self.of.shown(), show(self.expiry))
+    }
+}
+
+impl Question for Made {
+    fn smaller(&self) -> Vec<Self> {
+        let mut out = Vec::new();
+        for i in 0..self.expiries.len() {
+            let mut m = self.clone();
+            m.expiries.remove(i);
+            m.grid.remove(i);
+            out.push(m);
+        }
+        for j in 0..self.strikes.len() {
+            let mut m = self.clone();
+            m.strikes.remove(j);
+            for row in &mut m.grid {
+                row.remove(j);
+            }
+            out.push(m);
+        }
+        if self.strikes.len() * self.expiries.len() <= 6 {
+            for j in 0..self.strikes.len() {
+                for x in simpler(self.strikes[j], 100.0) {
+                    let mut m = self.clone();
+                    m.strikes[j] = x;
+                    out.push(m);
+                }
+            }
+            for i in 0..self.expiries.len() {
+                for x in simpler(self.expiries[i], 1.0) {
+                    let mut m = self.clone();
+                    m.expiries[i] = x;
+                    out.push(m);
+                }
+                for j in 0..self.strikes.len() {
+                    for x in simpler(self.grid[i][j], 0.25) {
+                        let mut m = self.clone();
+                        m.grid[i][j] = x;
+                        out.push(m);
+                    }
+                }
+            }
+        }
+        out
+    }
+    fn shown(&self) -> String {
+        let list = |xs: &[f64]| xs.iter().map(|x| show(*x)).collect::<Vec<_>>().join(", ");
+        let rows: Vec<String> = self.grid.iter().take(4).map(|row| format!("[{}]", list(row))).collect();
+        format!("strikes [{}], expiries [{}], cells {}", list(&self.strikes), list(&self.expiries), rows.join(" "))
+    }
+}
+
+/// A grid for the gap filler, and the sizes and the length it is lent with.
+#[derive(Clone)]
+struct Gaps {
+    rows: Vec<Vec<f64>>,
+    strikes: u64,
+    expiries: u64,
+    lent: usize,
+}
+
+impl Question for Gaps {
+    fn smaller(&self) -> Vec<Self> {
+        let mut out = Vec::new();
+        for size in [0, 1, 33, 65] {
+            if size < self.strikes {
+                out.push(Gaps { strikes: size, rows: Vec::new(), ..self.clone() });
+            }
+            if size < self.expiries {
+                out.push(Gaps { expiries: size, rows: Vec::new(), ..self.clone() });
+            }
+        }
+        for i in 0..self.rows.len() {
+            for j in 0..self.rows[i].len() {
+                for x in simpler(self.rows[i][j], f64::NAN) {
+                    let mut g = self.clone();
+                    g.rows[i][j] = x;
+                    out.push(g);
+                }
+            }
+        }
+        out
+    }
+    fn shown(&self) -> String {
+        let rows: Vec<String> = self.rows.iter().map(|row| format!("{row:?}")).collect();
+        format!("{} strikes, {} expiries, {} entries lent {}", self.strikes, self.expiries, self.lent, rows.join(" "))
+    }
+}
+
+impl Question for Offers {
+    fn smaller(&self) -> Vec<Self> {
+        let mut out = Vec::new();
+        let n = self.len();
+        let mut size = n;
+        while size > 0 {
+            for from in (0..n).step_by(size) {
+                let (mut o, to) = (self.clone(), (from + size).min(n));
+                o.prices.drain(from..to);
+                o.puts.drain(from..to);
+                o.strikes.drain(from..to);
+                o.expiries.drain(from..to);
+                o.values.drain(from..to);
+                out.push(o);
+            }
+            size /= 2;
+        }
+        out
+    }
+    fn shown(&self) -> String {
+        let offer = |i: usize| {
+            let what = if !self.prices[i] { "volatility" } else if self.puts[i] { "put" } else { "call" };
+            format!("({what} {} {} {})", show(self.strikes[i]), show(self.expiries[i]), show(self.values[i]))
+        };
+        let offers: Vec<String> = (0..self.len().min(6)).map(offer).collect();
+        format!("spot {}, rate {}, {} offers: {}", show(self.spot), show(self.rate), self.len(), offers.join(" "))
+    }
+}
+
+// ---- the two sides, kind by kind
+
+fn function(q: &One) -> Verdict {
+    let (name, x) = (FUNCTIONS[q.0], q.1);
+    let expected = match name {
+        "sqrt" => x.sqrt(),
+        "exp" => reference::exp(x),
+        "ln" => reference::ln(x),
+        "erfc" => reference::erfc(x),
+        "pdf" => normal::pdf(x),
+        _ => normal::cdf(x),
+    };
+    let got = ours::function(name, x);
+    if same_bits(got, expected) {
+        Same("values".to_string())
+    } else {
+        Unlisted(format!("ours {} the Rust {}", show(got), show(expected)))
+    }
+}
+
+fn params(q: &Asked, values: [f64; 5]) -> OptionParams {
+    let [spot, strike, time_to_expiry, risk_free_rate, volatility] = values;
+    let option_type = if q.put { greeks_noted::OptionType::Put } else { greeks_noted::OptionType::Call };
+    OptionParams { spot, strike, time_to_expiry, risk_free_rate, volatility, option_type }
+}
+
+/// The Rust's guard that a number of 01's stands for.
+fn guard(check: u64) -> &'static str {
+    match check {
+        5 => "market_price",
+        6 => "spot",
+        7 => "strike",
+        8 => "time_to_expiry",
+        10 => "volatility",
+        _ => "none",
+    }
+}
+
+/// Where a check of 01's holds: ours gives its number and zeros; the Rust's answer is the same refusal, or a listed difference.
+fn turned_down(check: Check, number: u64, clean: bool, rust: Result<&[f64], &GreekError>) -> Verdict {
+    if number != check.number || !clean {
+        return Unlisted(format!("01 says {} with zeros, ours {number}", check.number));
+    }
+    let (did, answer) = match rust {
+        Ok(values) => ("answers", values.iter().map(|x| show(*x)).collect::<Vec<_>>().join(", ")),
+        Err(GreekError::NoConvergence) => ("finds nothing", "NoConvergence".to_string()),
+        Err(GreekError::InvalidParams(m)) if m.starts_with(guard(number)) => return Same(format!("refused by {number}")),
+        Err(GreekError::InvalidParams(m)) => ("refuses another value", m.clone()),
+    };
+    differs(number, cause(number, check.value), did, answer)
+}
+
+fn valued(check: Check, number: u64, got: &[f64], rust: Result<&[f64], &GreekError>) -> Verdict {
+    if check.number != 0 {
+        return turned_down(check, number, zeros(got), rust);
+    }
+    match rust {
+        Ok(expected) if number == 0 && all_same(got, expected) => Same("values".to_string()),
+        _ => Unlisted(format!("ours {number} {got:?}, the Rust {rust:?}")),
+    }
+}
+
+fn price(q: &Named) -> Verdict {
+    let [spot, strike, expiry, rate, volatility] = q.0.values;
+    let check = checks::option(spot, strike, expiry, rate, volatility);
+    let (number, got) = ours::price(q.0.put, q.0.values);
+    let rust = bsm_price(&params(&q.0, q.0.values)).map(|p| [p]);
+    valued(check, number, &got, rust.as_ref().map(|p| &p[..]))
+}
+
+fn greeks(q: &Named) -> Verdict {
+    let [spot, strike, expiry, rate, volatility] = q.0.values;
+    let check = checks::option(spot, strike, expiry, rate, volatility);
+    let (number, got) = ours::greeks(q.0.put, q.0.values);
+    let rust = bsm_greeks(&params(&q.0, q.0.values)).map(|g| [g.delta, g.gamma, g.theta, g.vega, g.rho, g.vanna, g.volga]);
+    valued(check, number, &got, rust.as_ref().map(|g| &g[..]))
+}
+
+/// What the Rust's solve says in 01's terms: a number, four values, the evaluations.
+fn solved(put: bool, v: [f64; 5]) -> (Result<f64, GreekError>, u64, [f64; 4], u64) {
+    let [market, spot, strike, expiry, rate] = v;
+    notes::clear();
+    let rust = implied_volatility(market, &params(&Asked { put, values: v }, [spot, strike, expiry, rate, 0.0]));
+    let made = notes::evaluations();
+    let (number, values) = match &rust {
+        Ok(_) => (0, notes::answer().unwrap()),
+        Err(GreekError::NoConvergence) if made == 2 => (12, [0.0; 4]),
+        Err(GreekError::NoConvergence) if made == 52 => (13, [0.0; 4]),
+        Err(_) => (u64::MAX, [0.0; 4]),
+    };
+    (rust, number, values, made)
+}
+
+fn implied(q: &Named) -> Verdict {
+    let [market, spot, strike, expiry, rate] = q.0.values;
+    let check = checks::implied(market, spot, strike, expiry, rate);
+    let (number, got, evaluations) = ours::implied(q.0.put, q.0.values);
+    let (rust, expected, values, made) = solved(q.0.put, q.0.values);
+    if check.number != 0 {
+        let value = rust.map(|v| [v]);
+        return turned_down(check, number, zeros(&got) && evaluations == 0, value.as_ref().map(|v| &v[..]));
+    }
+    // 11, at the first price whose error is not finite; 14. Neither is known to come.
+    if let Some(at) = notes::first_not_finite(market) {
+        return if number == 11 && evaluations == at && zeros(&got) {
+            differs(11, "a price not finite", "goes on", format!("{rust:?}"))
+        } else {
+            Unlisted(format!("01 says 11 at evaluation {at}, ours {number} at {evaluations}"))
+        };
+    }
+    if expected == 0 && !checks::is_volatility(values[0]) {
+        return if number == 14 && evaluations == made && zeros(&got) {
+            differs(14, "an answer out of range", "answers", show(values[0]))
+        } else {
+            Unlisted(format!("01 says 14, ours {number}"))
+        };
+    }
+    let tried = |x: f64, error: f64| notes::tried(x).is_some_and(|p| same_bits(p - market, error));
+    let evidence = number != 0 || (tried(got[0], got[1]) && tried(got[2], got[3]));
+    if number == expected && all_same(&got, &values) && evaluations == made && evidence {
+        Same(if number == 0 { "values".to_string() } else { format!("refused by {number}") })
+    } else {
+        Unlisted(format!("ours {number} {got:?} {evaluations}, the Rust {rust:?} {values:?} {made}"))
+    }
+}
+
+/// The Rust's surface with its counts, or that it panicked (its sort may, where the order is none).
+fn rust_surface(q: &Quotes) -> Option<(VolSurface, Vec<Vec<u32>>)> {
+    let points = (0..q.len()).map(|i| VolPoint { strike: q.strikes[i], expiry: q.expiries[i], implied_vol: q.volatilities[i] }).collect();
+    let surface = catch_unwind(AssertUnwindSafe(|| VolSurface::from_points(points))).ok()?;
+    Some((surface, notes::build()))
+}
+
+/// Whether ours holds the Rust's surface, and nothing else was written.
+fn same_surface(b: &Buffers, s: &VolSurface, counts: &[Vec<u32>]) -> Result<(), String> {
+    let (columns, rows) = (s.strikes().len(), s.expiries().len());
+    if b.lengths != [columns as u64, rows as u64] {
+        return Err(format!("ours {:?} strikes and expiries, the Rust {columns} and {rows}", b.lengths));
+    }
+    if !all_same(&b.strike_axis[..columns], s.strikes()) || !all_same(&b.expiry_axis[..rows], s.expiries()) {
+        return Err("the axes differ".to_string());
+    }
+    for i in 0..rows {
+        if !all_same(&b.grid[64 * i..64 * i + columns], &s.grid()[i]) {
+            return Err(format!("row {i} differs"));
+        }
+        if b.counts[64 * i..64 * i + columns].iter().zip(&counts[i]).any(|(x, y)| *x != u64::from(*y)) {
+            return Err(format!("the counts of row {i} differ"));
+        }
+    }
+    if b.rest_untouched(columns, rows) { Ok(()) } else { Err("more was written".to_string()) }
+}
+
+/// Check 2 of a build: the worst of its kept entries, not-a-number first.
+fn worst(q: &Quotes) -> Option<String> {
+    let mut wrong: Vec<(&str, f64)> = Vec::new();
+    for i in 0..q.len() {
+        if !checks::is_strike(q.strikes[i]) {
+            wrong.push(("strike", q.strikes[i]));
+        }
+        if !checks::is_expiry(q.expiries[i]) {
+            wrong.push(("expiry", q.expiries[i]));
+        }
+        if !checks::is_volatility(q.volatilities[i]) {
+            wrong.push(("volatility", q.volatilities[i]));
+        }
+    }
+    let nan = wrong.iter().find(|w| w.1.is_nan());
+    nan.or(wrong.first()).map(|w| format!("{} {}", w.0, cause(2, w.1)))
+}
+
+/// Quotes with the lengths that columns and buffers are lent with.
+#[derive(Clone)]
+struct Build {
+    quotes: Quotes,
+    column: usize,
+    lent: [usize; 4],
+}
+
+impl Question for Build {
+    fn smaller(&self) -> Vec<Self> {
+        self.quotes.smaller().into_iter().map(|quotes| Build { quotes, ..self.clone() }).collect()
+    }
+    fn shown(&self) -> String {
+        let plain = self.column >= 1024 && self.lent == [64, 32, 2048, 2048];
+        let lent = if plain { String::new() } else { format!("; columns of {}, buffers of {:?}", self.column, self.lent) };
+        self.quotes.shown() + &lent
+    }
+}
+
+/// A column lent: the values, then what a column held before.
+fn lent_column(values: &[f64], length: usize) -> Vec<f64> {
+    let mut column = values.to_vec();
+    column.resize(length.max(values.len()), f64::NAN);
+    column.truncate(length);
+    column
+}
+
+fn built(q: &Build, b: &mut Buffers) -> (u64, Option<(VolSurface, Vec<Vec<u32>>)>) {
+    let [ks, ts, vs] = [&q.quotes.strikes, &q.quotes.expiries, &q.quotes.volatilities].map(|c| lent_column(c, q.column));
+    let number = ours::build(&ks, &ts, &vs, q.quotes.len() as u64, b);
+    (number, rust_surface(&q.quotes))
+}
+
+fn build_verdict(q: &Build, b: &Buffers, number: u64, rust: &Option<(VolSurface, Vec<Vec<u32>>)>) -> Verdict {
+    let (did, answer) = match rust {
+        None => ("panics in its sort", "user-provided comparison function does not correctly implement a total order".to_string()),
+        Some((s, counts)) => ("builds", format!("{} strikes, {} expiries, counts {:?}", s.strikes().len(), s.expiries().len(), counts.iter().take(2).map(|row| &row[..row.len().min(4)]).collect::<Vec<_>>())),
+    };
+    let short = q.lent[0] < 64 || q.lent[1] < 32 || q.lent[2] < 2048 || q.lent[3] < 2048;
+    let (check, cause) = if q.column < 1024 {
+        (1, "columns under 1,024".to_string())
+    } else if q.quotes.len() > 1024 {
+        (2, "more than 1,024 quotes".to_string())
+    } else if let Some(cause) = worst(&q.quotes) {
+        (2, cause)
+    } else if short {
+        (15, "a buffer too short".to_string())
+    } else {
+        match rust {
+            None => return Unlisted("the Rust panics".to_string()),
+            Some((s, _)) if s.strikes().len() > 64 => (16, "more than 64 strikes".to_string()),
+            Some((s, _)) if s.expiries().len() > 32 => (17, "more than 32 expiries".to_string()),
+            Some((s, counts)) => {
+                return match same_surface(b, s, counts) {
+                    Ok(()) if number == 0 => Same("surfaces".to_string()),
+                    Ok(()) => Unlisted(format!("ours {number}, the Rust builds")),
+                    Err(what) => Unlisted(what),
+                }
+            }
+        }
+    };
+    if number != check || b.lengths != [0, 0] || !b.rest_untouched(0, 0) {
+        return Unlisted(format!("01 says {check} with nothing written, ours {number}"));
+    }
+    differs(check, cause, did, answer)
+}
+
+fn build(q: &Build) -> Verdict {
+    let mut b = Buffers::new(q.lent[0], q.lent[1], q.lent[2], q.lent[3]);
+    let (number, rust) = built(q, &mut b);
+    build_verdict(q, &b, number, &rust)
+}
+
+/// A reading of the two surfaces, which hold the same.
+fn reading(b: &Buffers, s: &VolSurface, strike: Option<f64>, expiry: f64) -> Verdict {
+    let (number, got) = ours::read(b, strike, expiry);
+    let (ks, ts) = (s.strikes(), s.expiries());
+    let rust = match strike {
+        Some(k) => s.interpolate(k, expiry),
+        None => s.atm_vol(expiry),
+    };
+    let outside = |axis: &[f64], x: f64| !checks::within(axis[0], axis[axis.len() - 1], x);
+    let axis = if checks::is_axis(ks) { ts } else { ks };
+    let (check, cause) = if !checks::is_axis(axis) {
+        (18, checks::axis_cause(axis).to_string())
+    } else if let Some(k) = strike.filter(|k| outside(ks, *k)) {
+        (19, if k.is_nan() { "strike not-a-number" } else { "strike outside" }.to_string())
+    } else if outside(ts, expiry) {
+        (20, if expiry.is_nan() { "expiry not-a-number" } else { "expiry outside" }.to_string())
+    } else if rust.is_none() {
+        (20, "a cell not-a-number".to_string())
+    } else {
+        (0, String::new())
+    };
+    if number != check || (check != 0 && got.to_bits() != 0) {
+        return Unlisted(format!("01 says {check}, ours {number} {got:?}, the Rust {rust:?}"));
+    }
+    match rust {
+        None => Same(format!("refused by {number}")),
+        Some(v) if number == 0 && same_bits(v, got) => Same("values".to_string()),
+        Some(v) if number == 0 => Unlisted(format!("ours {}, the Rust {}", show(got), show(v))),
+        Some(v) => differs(check, cause, "answers", show(v)),
+    }
+}
+
+fn read_built(q: &Read<Quotes>) -> Verdict {
+    let build = Build { quotes: q.of.clone(), column: 1024, lent: [64, 32, 2048, 2048] };
+    let mut b = Buffers::new(64, 32, 2048, 2048);
+    match built(&build, &mut b) {
+        (0, Some((s, _))) => reading(&b, &s, q.strike, q.expiry),
+        _ => Same("not built".to_string()),
+    }
+}
+
+/// The same surface in our buffers.
+fn lend(m: &Made, b: &mut Buffers) {
+    b.clear();
+    b.lengths = [m.strikes.len() as u64, m.expiries.len() as u64];
+    b.strike_axis[..m.strikes.len()].copy_from_slice(&m.strikes);
+    b.expiry_axis[..m.expiries.len()].copy_from_slice(&m.expiries);
+    for (i, row) in m.grid.iter().enumerate() {
+        b.grid[64 * i..64 * i + row.len()].copy_from_slice(row);
+    }
+}
+
+fn read_made(q: &Read<Made>) -> Verdict {
+    let mut b = Buffers::new(64, 32, 2048, 2048);
+    lend(&q.of, &mut b);
+    reading(&b, &VolSurface::of(q.of.strikes.clone(), q.of.expiries.clone(), q.of.grid.clone()), q.strike, q.expiry)
+}
+
+fn fill(q: &Gaps) -> Verdict {
+    let mut lent = vec![1234.5; q.lent];
+    for (i, row) in q.rows.iter().enumerate() {
+        for (j, x) in row.iter().enumerate() {
+            if let Some(cell) = lent.get_mut(64 * i + j) {
+                *cell = *x;
+            }
+        }
+    }
+    let before = lent.clone();
+    let number = ours::fill_gaps(&mut lent, q.strikes, q.expiries);
+    let (check, cause) = if q.strikes > 64 || q.expiries > 32 {
+        (2, "more than 64 strikes or 32 expiries")
+    } else if q.lent < 2048 {
+        (15, "a grid under 2,048")
+    } else {
+        (0, "")
+    };
+    if number != check {
+        return Unlisted(format!("01 says {check}, ours {number}"));
+    }
+    if check != 0 {
+        if !all_same(&before, &lent) {
+            return Unlisted("a refusal wrote".to_string());
+        }
+        return differs(check, cause, "fills", "");
+    }
+    let mut rows = q.rows.clone();
+    rows.resize(q.expiries as usize, vec![f64::NAN; q.strikes as usize]);
+    VolSurface::fill(&mut rows, q.expiries as usize, q.strikes as usize);
+    let mut expected = before;
+    for (i, row) in rows.iter().enumerate() {
+        expected[64 * i..64 * i + row.len()].copy_from_slice(row);
+    }
+    if all_same(&expected, &lent) { Same("values".to_string()) } else { Unlisted("the cells differ".to_string()) }
+}
+
+/// A whole tray: 01's book over the Rust's solver and surface. The Rust has no book, so there is no other answer to differ from.
+fn tray(o: &Offers) -> Verdict {
+    let mut t = Tray::new(o.len());
+    let number = ours::quote_tray(o.spot, o.rate, &o.prices, &o.puts, &o.strikes, &o.expiries, &o.values, &mut t);
+    let opening = if !checks::is_spot(o.spot) { 6 } else if !checks::is_rate(o.rate) { 9 } else { 0 };
+    if opening != 0 {
+        let untouched = t.numbers.iter().all(|n| *n == 1234) && t.rest_untouched(0) && t.buffers.rest_untouched(0, 0);
+        if number == opening && untouched && t.totals == [0; 4] && t.buffers.lengths == [0, 0] {
+            return Same(format!("refused openings by {number}"));
+        }
+        return Unlisted(format!("01 says {opening}, ours {number} {:?}", t.totals));
+    }
+    let mut kept = Quotes::default();
+    let (mut refused, mut evaluations) = (0, 0);
+    for i in 0..o.len() {
+        let (strike, expiry, value) = (o.strikes[i], o.expiries[i], o.values[i]);
+        let own = if o.prices[i] { checks::priced(strike, expiry, value) } else { checks::offered(strike, expiry, value) };
+        let (answer, volatility) = if kept.len() == 1024 {
+            (4, 0.0)
+        } else if own.number != 0 {
+            (own.number, 0.0)
+        } else if o.prices[i] {
+            let (_, answer, values, made) = solved(o.puts[i], [value, o.spot, strike, expiry, o.rate]);
+            evaluations += made;
+            (answer, values[0])
+        } else {
+            (0, value)
+        };
+        if answer == 0 {
+            kept.push(strike, expiry, volatility);
+        } else {
+            refused += 1;
+        }
+        if t.numbers[i] != answer || !same_bits(t.solved[i], volatility) {
+            return Unlisted(format!("offer {i}: {answer} {}, ours {} {}", show(volatility), t.numbers[i], show(t.solved[i])));
+        }
+    }
+    let n = kept.len();
+    if t.totals != [n as u64, refused, o.len() as u64, evaluations] {
+        return Unlisted(format!("ours {:?}, 01's {n} {refused} {} {evaluations}", t.totals, o.len()));
+    }
+    let columns = all_same(&t.strikes[..n], &kept.strikes) && all_same(&t.expiries[..n], &kept.expiries) && all_same(&t.volatilities[..n], &kept.volatilities);
+    if !columns || !t.rest_untouched(n) {
+        return Unlisted("the columns differ".to_string());
+    }
+    let (s, counts) = rust_surface(&kept).unwrap();
+    let check = if s.strikes().len() > 64 { 16 } else if s.expiries().len() > 32 { 17 } else { 0 };
+    if number != check {
+        return Unlisted(format!("01's build says {check}, ours {number}"));
+    }
+    if check != 0 {
+        let untouched = t.buffers.rest_untouched(0, 0) && t.buffers.lengths == [0, 0];
+        return if untouched { Same(format!("builds refused by {check}")) } else { Unlisted("a refused build wrote".to_string()) };
+    }
+    match same_surface(&t.buffers, &s, &counts) {
+        Ok(()) => Same("trays".to_string()),
+        Err(what) => Unlisted(what),
+    }
+}
+
+// ---- the report
+
+#[derive(Default)]
+struct Kind {
+    asked: u64,
+    same: BTreeMap<String, u64>,
+    differs: BTreeMap<Class, (u64, String)>,
+    unlisted: BTreeMap<String, (u64, String)>,
+    notes: Vec<String>,
+}
+
+impl Kind {
+    /// A verdict, the question it is about, and how the question is asked again.
+    fn ask<Q: Question>(&mut self, verdict: Verdict, q: impl FnOnce() -> Q, again: impl Fn(&Q) -> Verdict) {
+        self.asked += 1;
+        match verdict {
+            Same(how) => *self.same.entry(how).or_default() += 1,
+            Differs { class, .. } if reason(class.0, &class.1).is_some() => {
+                let entry = self.differs.entry(class.clone()).or_default();
+                entry.0 += 1;
+                if entry.0 == 1 {
+                    let small = shrunk(q(), |s: &Q| matches!(again(s), Differs { class: c, .. } if c == class));
+                    let answer = if let Differs { answer, .. } = again(&small) { answer } else { String::new() };
+                    entry.1 = format!("{}: {answer}", small.shown());
+                }
+            }
+            Differs { class, .. } => self.note(q(), format!("{class:?} is on no list"), again),
+            Unlisted(what) => self.note(q(), what, again),
+        }
+    }
+
+    /// A difference on no list: kept by how ours and the Rust answered the smallest such input.
+    fn note<Q: Question>(&mut self, q: Q, what: String, again: impl Fn(&Q) -> Verdict) {
+        if self.unlisted.len() < 5 {
+            let small = shrunk(q, |s: &Q| matches!(again(s), Unlisted(_)));
+            let what = if let Unlisted(w) = again(&small) { w } else { what };
+            self.unlisted.entry(what).or_insert((0, small.shown())).0 += 1;
+        } else {
+            self.unlisted.entry("and more".to_string()).or_default().0 += 1;
+        }
+    }
+
+    fn print(&self, name: &str) {
+        let differing: u64 = self.differs.values().map(|d| d.0).sum();
+        let unlisted: u64 = self.unlisted.values().map(|d| d.0).sum();
+        println!("\n{name}: {} asked, {} alike, {differing} differ as listed, {unlisted} differ on no list", self.asked, self.asked - differing - unlisted);
+        let same: Vec<String> = self.same.iter().map(|(how, n)| format!("{n} {how}")).collect();
+        println!("    alike: {}", same.join(", "));
+        for note in &self.notes {
+            println!("    {note}");
+        }
+        for ((check, cause, rust), (n, smallest)) in &self.differs {
+            println!("    {check:>2} {cause}; the Rust {rust}: {n}");
+            println!("       smallest: {smallest}");
+        }
+        for (what, (n, smallest)) in &self.unlisted {
+            println!("    ON NO LIST: {what}: {n}");
+            println!("       smallest: {smallest}");
+        }
+    }
+}
+
+fn each_family(count: u64, mut f: impl FnMut(Family)) {
+    for family in FAMILIES {
+        for _ in 0..count.div_ceil(FAMILIES.len() as u64) {
+            f(family);
+        }
+    }
+}
+
+fn main() {
+    let mut args = std::env::args().skip(1).map(|a| a.parse::<u64>().expect("a whole number"));
+    let count = args.next().unwrap_or(1_000_000);
+    let seed = args.next().unwrap_or(20_260_101);
+    set_hook(Box::new(|_| {}));
+    println!("{count} questions of each kind at least, seed {seed}");
+    let mut kinds: Vec<(String, Kind)> = Vec::new();
+    let random = |kind: u64| Random(seed.wrapping_mul(1000).wrapping_add(kind));
+
+    for (i, name) in FUNCTIONS.into_iter().enumerate() {
+        let (mut r, mut k) = (random(i as u64), Kind::default());
+        each_family(count, |family| {
+            let q = One(i, questions::argument(&mut r, family, name));
+            k.ask(function(&q), || q.clone(), function);
+        });
+        k.print(name);
+        kinds.push((name.to_string(), k));
+    }
+
+    type Side = fn(&Named) -> Verdict;
+    let options: [(&str, u64, Side); 2] = [("price", 10, price), ("greeks", 11, greeks)];
+    for (name, stream, side) in options {
+        let (mut r, mut k) = (random(stream), Kind::default());
+        each_family(count, |family| {
+            let q = Named(questions::option(&mut r, family), OPTION, USUAL_OPTION);
+            k.ask(side(&q), || q.clone(), side);
+        });
+        k.print(name);
+        kinds.push((name.to_string(), k));
+    }
+
+    let (mut r, mut k) = (random(12), Kind::default());
+    let (mut evaluations, mut most) = (0, 0);
+    each_family(count, |family| {
+        let q = Named(questions::implied(&mut r, family), MARKET, USUAL_MARKET);
+        let verdict = implied(&q);
+        if let Same(how) = &verdict {
+            if how == "values" || how.ends_with("12") || how.ends_with("13") {
+                evaluations += notes::evaluations();
+                if how == "values" {
+                    most = most.max(notes::evaluations());
+                }
+            }
+        }
+        k.ask(verdict, || q, implied);
+    });
+    k.notes.push(format!("{evaluations} evaluations on both sides where the solver ran, {most} at most where it answered"));
+    k.print("implied volatility");
+    kinds.push(("implied volatility".to_string(), k));
+
+    surfaces(count, random(13), &mut kinds);
+
+    let (mut r, mut k) = (random(15), Kind::default());
+    let mut b = Buffers::new(64, 32, 2048, 2048);
+    each_family(count.div_ceil(10), |family| {
+        let m = questions::made(&mut r, family);
+        lend(&m, &mut b);
+        let s = VolSurface::of(m.strikes.clone(), m.expiries.clone(), m.grid.clone());
+        for i in 0..10 {
+            let strike = if i % 5 == 4 { None } else { Some(questions::place(&mut r, &m.strikes)) };
+            let expiry = questions::place(&mut r, &m.expiries);
+            k.ask(reading(&b, &s, strike, expiry), || Read { of: m.clone(), strike, expiry }, read_made);
+        }
+    });
+    k.print("readings of surfaces made by hand");
+    kinds.push(("readings of surfaces made by hand".to_string(), k));
+
+    let (mut r, mut k) = (random(16), Kind::default());
+    each_family(count, |family| {
+        let rows = questions::gaps(&mut r, family);
+        let (strikes, expiries) = (rows.first().map_or(r.below(65), |row| row.len() as u64), rows.len() as u64);
+        let mut q = Gaps { rows, strikes, expiries, lent: 2048 };
+        if r.once_in(50) {
+            match r.below(4) {
+                0 => q.lent = r.pick(&[0, 1, 2047]),
+                1 => q.lent = 2049 + r.index(64),
+                2 => q.strikes = r.pick(&[65, 66, 1 << 32, u64::MAX]),
+                _ => q.expiries = r.pick(&[33, 34, 1 << 32, u64::MAX]),
+            }
+        }
+        k.ask(fill(&q), || q.clone(), fill);
+    });
+    k.print("gap filler");
+    kinds.push(("gap filler".to_string(), k));
+
+    let (mut r, mut k) = (random(17), Kind::default());
+    let mut heard = 0;
+    while heard < count {
+        for family in FAMILIES {
+            let o = questions::offers(&mut r, family);
+            heard += o.len() as u64;
+            k.ask(tray(&o), || o.clone(), tray);
+        }
+    }
+    k.notes.push(format!("{heard} offers"));
+    k.print("whole trays");
+    kinds.push(("whole trays".to_string(), k));
+
+    totals(&kinds);
+}
+
+/// Builds, and readings of what they built.
+fn surfaces(count: u64, mut r: Random, kinds: &mut Vec<(String, Kind)>) {
+    let (mut builds, mut reads) = (Kind::default(), Kind::default());
+    let (mut cells, mut quotes) = (0, 0);
+    while cells < count || reads.asked < count {
+        for family in FAMILIES {
+            let mut q = Build { quotes: questions::tray(&mut r, family), column: 1024, lent: [64, 32, 2048, 2048] };
+            if r.once_in(40) {
+                match r.below(4) {
+                    0 => q.column = r.pick(&[0, 1, 1023]),
+                    1 => q.column = 1025 + r.index(8),
+                    2 => q.lent[r.index(4)] = r.pick(&[0, 1, 31]),
+                    _ => q.lent = [64 + r.index(3), 32 + r.index(3), 2048 + r.index(70), 2048 + r.index(70)],
+                }
+            }
+            let mut b = Buffers::new(q.lent[0], q.lent[1], q.lent[2], q.lent[3]);
+            let (number, rust) = built(&q, &mut b);
+            quotes += q.quotes.len();
+            let verdict = build_verdict(&q, &b, number, &rust);
+            let same = matches!(verdict, Same(_));
+            builds.ask(verdict, || q.clone(), build);
+            let Some((s, _)) = rust.filter(|_| same) else { continue };
+            cells += b.lengths[0] * b.lengths[1];
+            for i in 0..40 {
+                let strike = if i % 4 == 3 { None } else { Some(questions::place(&mut r, s.strikes())) };
+                let expiry = questions::place(&mut r, s.expiries());
+                reads.ask(reading(&b, &s, strike, expiry), || Read { of: q.quotes.clone(), strike, expiry }, read_built);
+            }
+        }
+    }
+    builds.notes.push(format!("{quotes} quotes, {cells} cells compared with their counts"));
+    builds.print("builds");
+    kinds.push(("builds".to_string(), builds));
+    reads.print("readings");
+    kinds.push(("readings".to_string(), reads));
+}
+
+fn totals(kinds: &[(String, Kind)]) {
+    println!("\nreasons, all from document 01:");
+    let mut reasons: BTreeMap<(u64, &str), u64> = BTreeMap::new();
+    for (_, k) in kinds {
+        for ((check, cause, _), (n, _)) in &k.differs {
+            *reasons.entry((*check, reason(*check, cause).unwrap())).or_default() += n;
+        }
+    }
+    for ((check, why), n) in reasons {
+        println!("    {check:>2}: {n}: {why}");
+    }
+    let asked: u64 = kinds.iter().map(|k| k.1.asked).sum();
+    let listed: u64 = kinds.iter().flat_map(|k| k.1.differs.values()).map(|d| d.0).sum();
+    let unlisted: u64 = kinds.iter().flat_map(|k| k.1.unlisted.values()).map(|d| d.0).sum();
+    println!("\n{asked} questions, {} alike, {listed} differ as listed, {unlisted} differ on no list", asked - listed - unlisted);
+    if unlisted > 0 {
+        std::process::exit(1);
+    }
+}

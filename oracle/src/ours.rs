@@ -1,0 +1,289 @@
+//! Ours: the library `host` under its C names (crates/host says what each call does). A slice is a pointer and then its length.
+
+#[link(name = "host", kind = "static")]
+extern "C" {
+    fn kite_sqrt(x: f64) -> f64;
+    fn kite_exp(x: f64) -> f64;
+    fn kite_ln(x: f64) -> f64;
+    fn kite_erfc(x: f64) -> f64;
+    fn kite_pdf(x: f64) -> f64;
+    fn kite_cdf(x: f64) -> f64;
+    fn kite_bsm_price(put: bool, spot: f64, strike: f64, expiry: f64, rate: f64, volatility: f64, price: &mut f64) -> u64;
+    fn kite_bsm_greeks(put: bool, spot: f64, strike: f64, expiry: f64, rate: f64, volatility: f64, greeks: &mut [f64; 7]) -> u64;
+    fn kite_implied_volatility(
+        put: bool,
+        market: f64,
+        spot: f64,
+        strike: f64,
+        expiry: f64,
+        rate: f64,
+        values: &mut [f64; 4],
+        evaluations: &mut u64,
+    ) -> u64;
+    fn kite_build(
+        strikes: *const f64,
+        strikes_len: usize,
+        expiries: *const f64,
+        expiries_len: usize,
+        volatilities: *const f64,
+        volatilities_len: usize,
+        count: u64,
+        strike_axis: *mut f64,
+        strike_axis_len: usize,
+        expiry_axis: *mut f64,
+        expiry_axis_len: usize,
+        grid: *mut f64,
+        grid_len: usize,
+        counts: *mut u64,
+        counts_len: usize,
+        lengths: &mut [u64; 2],
+    ) -> u64;
+    fn kite_fill_gaps(grid: *mut f64, grid_len: usize, strikes: u64, expiries: u64) -> u64;
+    fn kite_interpolate(
+        strike_axis: *const f64,
+        strike_axis_len: usize,
+        expiry_axis: *const f64,
+        expiry_axis_len: usize,
+        grid: *const f64,
+        grid_len: usize,
+        strikes: u64,
+        expiries: u64,
+        strike: f64,
+        expiry: f64,
+        volatility: &mut f64,
+    ) -> u64;
+    fn kite_atm_vol(
+        strike_axis: *const f64,
+        strike_axis_len: usize,
+        expiry_axis: *const f64,
+        expiry_axis_len: usize,
+        grid: *const f64,
+        grid_len: usize,
+        strikes: u64,
+        expiries: u64,
+        expiry: f64,
+        volatility: &mut f64,
+    ) -> u64;
+    fn kite_quote_tray(
+        spot: f64,
+        rate: f64,
+        prices: *const bool,
+        prices_len: usize,
+        puts: *const bool,
+        puts_len: usize,
+        ks: *const f64,
+        ks_len: usize,
+        ts: *const f64,
+        ts_len: usize,
+        vs: *const f64,
+        vs_len: usize,
+        numbers: *mut u64,
+        numbers_len: usize,
+        solved: *mut f64,
+        solved_len: usize,
+        strikes: *mut f64,
+        strikes_len: usize,
+        expiries: *mut f64,
+        expiries_len: usize,
+        volatilities: *mut f64,
+        volatilities_len: usize,
+        strike_axis: *mut f64,
+        strike_axis_len: usize,
+        expiry_axis: *mut f64,
+        expiry_axis_len: usize,
+        grid: *mut f64,
+        grid_len: usize,
+        counts: *mut u64,
+        counts_len: usize,
+        totals: &mut [u64; 4],
+        lengths: &mut [u64; 2],
+    ) -> u64;
+}
+
+/// `function` is one of `questions::FUNCTIONS`.
+pub fn function(function: &str, x: f64) -> f64 {
+    unsafe {
+        match function {
+            "sqrt" => kite_sqrt(x),
+            "exp" => kite_exp(x),
+            "ln" => kite_ln(x),
+            "erfc" => kite_erfc(x),
+            "pdf" => kite_pdf(x),
+            _ => kite_cdf(x),
+        }
+    }
+}
+
+/// What stood in a result before the call, so that an unwritten one shows.
+const UNWRITTEN: f64 = 1234.5;
+
+pub fn price(put: bool, v: [f64; 5]) -> (u64, [f64; 1]) {
+    let mut out = [UNWRITTEN];
+    let number = unsafe { kite_bsm_price(put, v[0], v[1], v[2], v[3], v[4], &mut out[0]) };
+    (number, out)
+}
+
+pub fn greeks(put: bool, v: [f64; 5]) -> (u64, [f64; 7]) {
+    let mut out = [UNWRITTEN; 7];
+    let number = unsafe { kite_bsm_greeks(put, v[0], v[1], v[2], v[3], v[4], &mut out) };
+    (number, out)
+}
+
+/// `v` is the market price, spot, strike, expiry and rate.
+pub fn implied(put: bool, v: [f64; 5]) -> (u64, [f64; 4], u64) {
+    let (mut out, mut evaluations) = ([UNWRITTEN; 4], 1234);
+    let number = unsafe { kite_implied_volatility(put, v[0], v[1], v[2], v[3], v[4], &mut out, &mut evaluations) };
+    (number, out, evaluations)
+}
+
+/// A surface's lent buffers, with both lengths.
+#[derive(Clone)]
+pub struct Buffers {
+    pub strike_axis: Vec<f64>,
+    pub expiry_axis: Vec<f64>,
+    pub grid: Vec<f64>,
+    pub counts: Vec<u64>,
+    pub lengths: [u64; 2],
+}
+
+impl Buffers {
+    pub fn new(strikes: usize, expiries: usize, grid: usize, counts: usize) -> Self {
+        Buffers {
+            strike_axis: vec![UNWRITTEN; strikes],
+            expiry_axis: vec![UNWRITTEN; expiries],
+            grid: vec![UNWRITTEN; grid],
+            counts: vec![1234; counts],
+            lengths: [1234; 2],
+        }
+    }
+    /// As at first, without a new allocation.
+    pub fn clear(&mut self) {
+        self.strike_axis.fill(UNWRITTEN);
+        self.expiry_axis.fill(UNWRITTEN);
+        self.grid.fill(UNWRITTEN);
+        self.counts.fill(1234);
+        self.lengths = [1234; 2];
+    }
+    /// Whether every entry not in use is as at first, for that many strikes and expiries in use.
+    pub fn rest_untouched(&self, strikes: usize, expiries: usize) -> bool {
+        let unused = |i: usize| i / 64 >= expiries || i % 64 >= strikes || i >= 2048;
+        self.strike_axis.iter().skip(strikes).all(|x| *x == UNWRITTEN)
+            && self.expiry_axis.iter().skip(expiries).all(|x| *x == UNWRITTEN)
+            && self.grid.iter().enumerate().all(|(i, x)| !unused(i) || *x == UNWRITTEN)
+            && self.counts.iter().enumerate().all(|(i, x)| !unused(i) || *x == 1234)
+    }
+}
+
+pub fn build(strikes: &[f64], expiries: &[f64], volatilities: &[f64], count: u64, b: &mut Buffers) -> u64 {
+    unsafe {
+        kite_build(
+            strikes.as_ptr(),
+            strikes.len(),
+            expiries.as_ptr(),
+            expiries.len(),
+            volatilities.as_ptr(),
+            volatilities.len(),
+            count,
+            b.strike_axis.as_mut_ptr(),
+            b.strike_axis.len(),
+            b.expiry_axis.as_mut_ptr(),
+            b.expiry_axis.len(),
+            b.grid.as_mut_ptr(),
+            b.grid.len(),
+            b.counts.as_mut_ptr(),
+            b.counts.len(),
+            &mut b.lengths,
+        )
+    }
+}
+
+pub fn fill_gaps(grid: &mut [f64], strikes: u64, expiries: u64) -> u64 {
+    unsafe { kite_fill_gaps(grid.as_mut_ptr(), grid.len(), strikes, expiries) }
+}
+
+/// A reading, or with no strike the one at the money.
+pub fn read(b: &Buffers, strike: Option<f64>, expiry: f64) -> (u64, f64) {
+    let mut out = UNWRITTEN;
+    let (s, e, g) = (&b.strike_axis, &b.expiry_axis, &b.grid);
+    let [strikes, expiries] = b.lengths;
+    let number = unsafe {
+        match strike {
+            Some(strike) => {
+                kite_interpolate(s.as_ptr(), s.len(), e.as_ptr(), e.len(), g.as_ptr(), g.len(), strikes, expiries, strike, expiry, &mut out)
+            }
+            None => kite_atm_vol(s.as_ptr(), s.len(), e.as_ptr(), e.len(), g.as_ptr(), g.len(), strikes, expiries, expiry, &mut out),
+        }
+    };
+    (number, out)
+}
+
+/// What a tray is answered with: a number and a volatility an offer, the three columns, the record's counts, and the surface.
+#[derive(Clone)]
+pub struct Tray {
+    pub numbers: Vec<u64>,
+    pub solved: Vec<f64>,
+    pub strikes: Vec<f64>,
+    pub expiries: Vec<f64>,
+    pub volatilities: Vec<f64>,
+    pub buffers: Buffers,
+    /// Kept, refused, heard, evaluations.
+    pub totals: [u64; 4],
+}
+
+impl Tray {
+    pub fn new(offers: usize) -> Self {
+        Tray {
+            numbers: vec![1234; offers],
+            solved: vec![UNWRITTEN; offers],
+            strikes: vec![UNWRITTEN; 1024],
+            expiries: vec![UNWRITTEN; 1024],
+            volatilities: vec![UNWRITTEN; 1024],
+            buffers: Buffers::new(64, 32, 2048, 2048),
+            totals: [1234; 4],
+        }
+    }
+    /// Whether the columns past the first `kept` entries are as at first.
+    pub fn rest_untouched(&self, kept: usize) -> bool {
+        [&self.strikes, &self.expiries, &self.volatilities].iter().all(|c| c.iter().skip(kept).all(|x| *x == UNWRITTEN))
+    }
+}
+
+pub fn quote_tray(spot: f64, rate: f64, prices: &[bool], puts: &[bool], ks: &[f64], ts: &[f64], vs: &[f64], t: &mut Tray) -> u64 {
+    let b = &mut t.buffers;
+    unsafe {
+        kite_quote_tray(
+            spot,
+            rate,
+            prices.as_ptr(),
+            prices.len(),
+            puts.as_ptr(),
+            puts.len(),
+            ks.as_ptr(),
+            ks.len(),
+            ts.as_ptr(),
+            ts.len(),
+            vs.as_ptr(),
+            vs.len(),
+            t.numbers.as_mut_ptr(),
+            t.numbers.len(),
+            t.solved.as_mut_ptr(),
+            t.solved.len(),
+            t.strikes.as_mut_ptr(),
+            t.strikes.len(),
+            t.expiries.as_mut_ptr(),
+            t.expiries.len(),
+            t.volatilities.as_mut_ptr(),
+            t.volatilities.len(),
+            b.strike_axis.as_mut_ptr(),
+            b.strike_axis.len(),
+            b.expiry_axis.as_mut_ptr(),
+            b.expiry_axis.len(),
+            b.grid.as_mut_ptr(),
+            b.grid.len(),
+            b.counts.as_mut_ptr(),
+            b.counts.len(),
+            &mut t.totals,
+            &mut b.lengths,
+        )
+    }
+}
