@@ -12,13 +12,13 @@ use lib.Dec.{eqb}
 use Rattle.floats.proofs.Tests.{by}
 use Rattle.frames.specs.Hex.{answerLine}
 use Rattle.frames.specs.Frames.{frameOf}
-use Rattle.frames.specs.Lines.{held, noLine, pushed, cap}
+use Rattle.frames.specs.Lines.{lines, held, noLine, pushed, cap}
 use Rattle.frames.specs.Session.{Heard, Session, output, bookLeft, step, feed, finish, ended}
 use Rattle.frames.specs.Moves.{Place, sessionOf, Moved, Answered}
 use Rattle.frames.specs.declared.Frame.{Frame}
 use Rattle.frames.specs.declared.Line.{Line}
 use Rattle.frames.proofs.Parts.{held-pushed}
-use Rattle.frames.proofs.Sizes.{answer-size, output-room}
+use Rattle.frames.proofs.Sizes.{answer-size, output-size}
 use Rattle.frames.proofs.Streams.{whole}
 
 drop-more : (a b : List ℕ) (m n : ℕ) → m ≤ n → drop m a ≡ drop m b → drop n a ≡ drop n b
@@ -87,7 +87,7 @@ module _ {B : Type 0} (hear : B → Frame → Heard B) where
   going-start p chunk h =
       record { to-come = refl; rest = refl; size = refl; from = omega arith; within = h; room = omega arith; index = omega arith }
 
-  text-ended : (s : Session B) → length (ended hear s .text) ≡ length (s .text) + 19
+  pub text-ended : (s : Session B) → length (ended hear s .text) ≡ length (s .text) + 19
   unfolding ended
   text-ended s =
       let h = hear (s .book) (frameOf (s .part)) in
@@ -101,7 +101,7 @@ module _ {B : Type 0} (hear : B → Frame → Heard B) where
       (λ _. omega (arith, text-ended s)) (λ _. omega arith)
 
   -- How much text waits, of a place that a move led to.
-  text-size : (to : Session B) (p r : Place B) → Moved to p r → r .at ≡ length (to .text)
+  pub text-size : (to : Session B) (p r : Place B) → Moved to p r → r .at ≡ length (to .text)
   text-size to p r m = sym (length-take-le (r .at) (r .out) (m .within)) ∙ ap (λ (z : Session B). length (z .text)) (m .session)
 
   pub going-step : (p t r : Place B) (chunk : List ℕ) (i : ℕ) → i < length chunk → Going p chunk t i →
@@ -180,11 +180,10 @@ module _ {B : Type 0} (hear : B → Frame → Heard B) where
       finish hear (sessionOf t) ≡ at (bookLeft hear b input) [] (output hear b input)
   ends b input out t m = ap (finish hear) (m .session) ∙ whole hear input b [] []
 
-  -- A buffer of 19 bytes for each byte of the input has room to the end.
+  -- A buffer of 19 bytes for each line of the input has room to the end.
   pub room-whole : (b : B) (input out : List ℕ) (t : Place B) → Moved (feed hear (sessionOf (first b out)) input) (first b out) t →
-      19 * length input ≤ length out → length (finish hear (sessionOf t) .text) ≤ length (t .out)
-  room-whole b input out t m h =
-      rw (ends b input out t m, m .size) (omega (arith, output-room hear b input))
+      19 * length (lines input) ≤ length out → length (finish hear (sessionOf t) .text) ≤ length (t .out)
+  room-whole b input out t m h = rw (ends b input out t m, m .size, output-size hear b input) h
 
   pub answered : (b : B) (input out : List ℕ) (t e : Place B) → Moved (feed hear (sessionOf (first b out)) input) (first b out) t →
       Moved (finish hear (sessionOf t)) t e → Answered hear b input out (e .at) (e .out) (e .book)

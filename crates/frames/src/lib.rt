@@ -178,7 +178,8 @@ fn three_floats(s: &[u8]) -> Frame
     Frame::Bad
 }
 
-fn frame_of(s: &[u8]) -> Frame
+// The frame of a line's bytes, its line feed not among them.
+pub fn frame_of(s: &[u8]) -> Frame
     ensures { λ r. ⌜ r ≡ frameOf (now (s .entry)) ⌝ }
 {
     if !all_digits(s) {

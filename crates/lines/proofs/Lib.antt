@@ -1,0 +1,8 @@
+pub mod Hearing
+pub mod Counting
+pub mod Lengths
+pub mod Going
+pub mod Leaving
+pub mod Numbers
+pub mod Programs
+pub mod Claims

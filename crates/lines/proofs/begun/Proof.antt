@@ -1,0 +1,17 @@
+-- `lines::begun`: a line of which bytes came is one. Assumes nothing.
+use mathlib.Core.Path.{_≡_, refl, sym, ap, _∙_}
+use borrow.Author.Needs.{needs}
+use Rattle.lines.proofs.Lengths.{begun-none, begun-some}
+use Rattle.lines.proofs.begun.Statement.{statement}
+use Rattle.lines.proofs.begun.Tie as tie
+use Rattle.lines.proofs.begun.Reads as reads
+use Rattle.lines.proofs.begun.Lts as lts
+
+returns : tie.Need-returns
+returns c = sym (begun-none (c .before .before .args .line) (c .if1 .taken))
+
+returns-2 : tie.Need-returns-2
+returns-2 c = sym (begun-some (c .before .before .args .line) (search needs) (c .if1 .left))
+
+pub begun-spec : {M : Type 1} → statement M
+begun-spec = tie.close (tie.spec returns returns-2)

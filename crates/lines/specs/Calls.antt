@@ -1,0 +1,93 @@
+-- What the calls of this crate promise: the answer, the record, and every lent entry.
+use Prim.Native.Nat.{ℕ, suc, _*_}
+use Prim.Native.Char.{code}
+use mathlib.Core.Path.{_≡_}
+use mathlib.Core.List.{List, [], _∷_, _++_}
+use lib.Dec.{eqb, ltb}
+use lib.ListN.{length, drop}
+use Rattle.floats.specs.Operators.{if_then_else_}
+use Rattle.book.specs.Book.{Columns, zeroBook}
+use Rattle.book.specs.Claim.{Ledger}
+use Rattle.book.specs.declared.Book.{Book}
+use Rattle.frames.specs.Hex.{answerLine}
+use Rattle.frames.specs.Frames.{frameOf}
+use Rattle.frames.specs.Lines.{unended, lines, held, noLine, pushed}
+use Rattle.frames.specs.Session.{Session, output, bookLeft, feed, finish}
+use Rattle.frames.specs.declared.Line.{Line}
+use Rattle.lines.specs.Hear.{ledger, hears}
+use Rattle.lines.specs.declared.Reply.{Reply}
+use Rattle.lines.specs.declared.State.{State}
+use Rattle.lines.specs.declared.Fed.{Fed}
+use Rattle.lines.specs.declared.Text.the-variants.{Written, Short}
+
+-- ---- one line
+
+-- The answer to a line's bytes, its line feed not among them.
+pub record AnswersLine (l : Ledger) (line : List ℕ) (r : Reply) (c' : Columns) : Type 0 where
+  pub text : r .text ≡ answerLine (hears l (frameOf line) .number) (hears l (frameOf line) .value)
+  pub ledger : ledger (r .book) c' ≡ hears l (frameOf line) .book
+
+-- ---- a stream of lines, a chunk at a time
+
+-- "Before any 10 the record is zeros."
+abbrev pub fresh : State
+fresh = record { book = zeroBook; line = noLine }
+
+-- The state with its columns, and no text that waits to be written.
+abbrev pub session : State → Columns → Session Ledger
+session s c = record { book = ledger (s .book) c; part = held (s .line); text = [] }
+
+-- The line that is held after a byte, and after a chunk's bytes.
+unfoldable pub lineStep : Line → ℕ → Line
+lineStep line c = if eqb c (code "\n") then noLine else pushed line c
+
+unfoldable pub lineAfter : Line → List ℕ → Line
+unfolding lineStep
+lineAfter line [] = line
+lineAfter line (c ∷ cs) = lineAfter (lineStep line c) cs
+
+-- How many lines a chunk ends.
+unfoldable pub feeds : List ℕ → ℕ
+feeds [] = 0
+feeds (c ∷ cs) = if eqb c (code "\n") then suc (feeds cs) else feeds cs
+
+-- What a call leaves: its answer, the columns and the lent buffer.
+pub record Left : Type 0 where
+  pub fed : Fed
+  pub columns : Columns
+  pub out : List ℕ
+
+abbrev pub left : Fed → Columns → List ℕ → Left
+left r c out = record { fed = r; columns = c; out = out }
+
+abbrev pub state : Book → Line → State
+state b line = record { book = b; line = line }
+
+-- The text stands in the front of the buffer, and the rest of it is as it was.
+abbrev pub wrote : Ledger → Line → List ℕ → List ℕ → Left
+wrote l line text out =
+    left (record { state = state (l .book) line; text = Written (length text) }) (l .columns) (text ++ drop (length text) out)
+
+-- The buffer must have room for the answers of n lines, 19 bytes each: else nothing is heard or written, and the answer says how many there are.
+unfoldable pub ifRoom : ℕ → State → Columns → List ℕ → Left → Left
+ifRoom n s c out x = if ltb (length out) (19 * n) then left (record { state = s; text = Short n }) c out else x
+
+-- A chunk is heard.
+unfoldable pub fed : State → Columns → List ℕ → List ℕ → Left
+unfolding ifRoom
+fed s c chunk out =
+    let t = feed hears (session s c) chunk in
+    ifRoom (feeds chunk) s c out (wrote (t .book) (lineAfter (s .line) chunk) (t .text) out)
+
+-- The input ends: a part of a line is the last line.
+unfoldable pub finished : State → Columns → List ℕ → Left
+unfolding ifRoom
+finished s c out =
+    let t = finish hears (session s c) in
+    ifRoom (length (unended (held (s .line)))) s c out (wrote (t .book) noLine (t .text) out)
+
+-- The whole program on an input: the answers to the frames of its lines.
+unfoldable pub allAnswered : Ledger → List ℕ → List ℕ → Left
+unfolding ifRoom
+allAnswered l input out =
+    ifRoom (length (lines input)) (state (l .book) noLine) (l .columns) out (wrote (bookLeft hears l input) noLine (output hears l input) out)

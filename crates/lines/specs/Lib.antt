@@ -1,0 +1,4 @@
+pub mod Hear
+pub mod Calls
+pub mod Moves
+pub mod Claims
