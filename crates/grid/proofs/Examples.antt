@@ -1,7 +1,7 @@
 -- Document 01's desk example of the gap filler, by computation. Assumes nothing.
 use mathlib.Core.Path.{_≡_, refl}
 use mathlib.Core.List.{[], _∷_}
-use lib.Ieee.{Float, nan, isNan, round}
+use lib.Ieee.{nan, isNan, round}
 use Rattle.floats.specs.Operators.{decimal}
 use Rattle.grid.specs.Gaps.{swept, forward, backward, filled}
 

@@ -1,7 +1,7 @@
 -- The cases of a bracket and of a reading, by the tests that choose them. Assumes nothing.
-use Prim.Native.Nat.{ℕ, _-_, _≤_, _<_}
-use mathlib.Core.Path.{_≡_, refl, sym, _∙_}
-use mathlib.Core.Bool.{Bool, true, false, not, _||_}
+use Prim.Native.Nat.{ℕ, _-_}
+use mathlib.Core.Path.{_≡_}
+use mathlib.Core.Bool.{true, false, not, _||_}
 use mathlib.Core.List.{List}
 use lib.Dec.{leb, eqb}
 use lib.ListN.{length, take, getD}
@@ -9,7 +9,7 @@ use lib.Ieee.{Float, nan}
 use borrow.Author.Tests.{ne-eqb}
 use Rattle.floats.specs.Operators.{decimal, _≼_}
 use Rattle.limits.specs.Checks.{first}
-use Rattle.limits.specs.Outcome.{Outcome, done, refused}
+use Rattle.limits.specs.Outcome.{done, refused}
 use Rattle.grid.specs.Answers.{answered}
 use Rattle.grid.specs.Search.{firstWhere}
 use Rattle.grid.specs.Readings.{fraction, bracket, corners, hasGap, bilinear, readRefusal, reading}

@@ -2,10 +2,10 @@
 use Prim.Native.Nat.{ℕ, zero, suc, _≤_, _<_}
 use mathlib.Core.Path.{_≡_, refl, sym, _∙_}
 use mathlib.Core.Bool.{Bool, true, false, not, _&&_, _||_}
-use mathlib.Core.List.{List, [], _∷_}
+use mathlib.Core.List.{List}
 use native.Mathlib.Omega.{arith}
 use lib.Dec.{ltb}
-use lib.ListN.{length, take, length-take}
+use lib.ListN.{length, take}
 use lib.Ieee.{Float}
 use borrow.Author.Tests.{ltb-false, not-false}
 use Rattle.limits.specs.Checks.{first, none}

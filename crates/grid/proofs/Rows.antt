@@ -1,7 +1,7 @@
 -- Values written one after the other into a lent row, and a row lent as a part of a grid and given back. Assumes nothing.
-use Prim.Native.Nat.{ℕ, suc, zero, _+_, _-_, _*_, _≤_, _<_}
-use mathlib.Core.Path.{_≡_, refl}
-use mathlib.Core.List.{List, [], _∷_, _++_, append-assoc, append-nil}
+use Prim.Native.Nat.{ℕ, suc, _+_, _-_, _≤_, _<_}
+use mathlib.Core.Path.{_≡_}
+use mathlib.Core.List.{List, _∷_, _++_, append-assoc, append-nil}
 use native.Mathlib.Omega.{arith}
 use native.Mathlib.Numerals.{add-one}
 use lib.ListN.{length, take, drop, set, length-drop}

@@ -1,14 +1,13 @@
 // A lent grid of up to 32 rows (expiries) and 64 columns (strikes): the gap filler and the readings. Of src/options/surface.rs.
 ghost use mathlib.Core.Path.{_≡_};
 ghost use mathlib.Core.Bool.{not, false, _&&_};
-ghost use Prim.Native.Nat.{_+_, _*_, _≤_, _<_};
+ghost use Prim.Native.Nat.{_≤_, _<_};
 ghost use lib.ListN.{length, take};
 ghost use lib.Ieee.{nan};
 ghost use Rattle.floats.specs.Operators.{_≺_, _≼_};
 ghost use Rattle.floats.specs.Values.{finite};
-ghost use Rattle.grid.specs.Layout.{cellAt};
 ghost use Rattle.grid.specs.Search.{firstWhere};
-ghost use Rattle.grid.specs.Gaps.{filled, forward, backward, swept, rowsSwept, column, putColumn, columnsSwept, fillRefusal, FillsGaps};
+ghost use Rattle.grid.specs.Gaps.{filled, forward, backward, swept, rowsSwept, column, putColumn, columnsSwept, FillsGaps};
 ghost use Rattle.grid.specs.Readings.{isAxis, inside, fraction, bracket, corners, hasGap, bilinear, readRefusal, reading, middleStrike, readOutcome};
 
 fn nan() -> f64

@@ -1,5 +1,5 @@
 -- What the checks of a build say together: what holds when none before the axes does, and what the axes then add. Assumes nothing.
-use Prim.Native.Nat.{ℕ, _≤_, _<_}
+use Prim.Native.Nat.{ℕ, _≤_}
 use mathlib.Core.Path.{_≡_, refl, sym, _∙_}
 use mathlib.Core.Bool.{Bool, true, false, not, _||_}
 use mathlib.Core.List.{List}
@@ -14,8 +14,12 @@ use Rattle.grid.proofs.ReadChecks.{neither}
 use Rattle.surface.specs.Quotes.{quotes, allInRange}
 use Rattle.surface.specs.Cells.{cell, count}
 use Rattle.surface.specs.Build.{front, table, refusal, numberOf, surface, Builds}
-use Rattle.surface.specs.declared.Built.{Built}
 use Rattle.surface.specs.declared.Built.the-variants.{Surface, Refused}
+use Rattle.surface.proofs.Choice.{split}
+
+-- 16 and 17
+abbrev pub axesRefusal : ℕ → ℕ → ℕ
+axesRefusal strikes expiries = first (ltb 64 strikes) 16 (first (ltb 32 expiries) 17 none)
 
 abbrev chain : Bool → Bool → Bool → ℕ → ℕ
 chain a b c rest = first a 1 (first b 2 (first c 15 rest))
@@ -33,6 +37,16 @@ chain-same true b c n rest h k = sym h
 chain-same false true c n rest h k = sym h
 chain-same false false true n rest h k = sym h
 chain-same false false false n rest h k = absurd (k h)
+
+-- axes that are not turned down fit
+pub axes-fit : (k t : ℕ) → axesRefusal k t ≡ 0 → (k ≤ 64) × (t ≤ 32)
+unfolding first
+axes-fit k t h =
+    split (ltb 64 k)
+    (λ a. (let z : _≡_ {A = ℕ} 16 0 = (rw a at h) in let w : ⊥ = omega arith in absurd w))
+    (λ a. split (ltb 32 t)
+    (λ b. (let z : _≡_ {A = ℕ} 17 0 = (rw (a, b) at h) in let w : ⊥ = omega arith in absurd w))
+    (λ b. (ltb-false 64 k a, ltb-false 32 t b)))
 
 -- 1
 pub long-columns : (k t v : ℕ) → (ltb k 1024 || ltb t 1024 || ltb v 1024) ≡ false → (1024 ≤ k) × (1024 ≤ t) × (1024 ≤ v)
@@ -70,7 +84,7 @@ pub record Passed (ks ts vs : List Float) (kept : ℕ) (ka ta g : List Float) (c
   pub long-expiries : 32 ≤ length ta
   pub long-grid : 2048 ≤ length g
   pub long-counts : 2048 ≤ length c
-  pub number : (k t : ℕ) → refusal ks ts vs kept (length ka) (length ta) (length g) (length c) k t ≡ first (ltb 64 k) 16 (first (ltb 32 t) 17 none)
+  pub number : (k t : ℕ) → refusal ks ts vs kept (length ka) (length ta) (length g) (length c) k t ≡ axesRefusal k t
 
 module _ (ks ts vs : List Float) (kept : ℕ) (ka ta g : List Float) (c : List ℕ) (n : ℕ) (h : n ≡ refusal ks ts vs kept (length ka) (length ta) (length g) (length c) 0 0) where
   abbrev short : Bool
@@ -108,4 +122,4 @@ module _ (ks ts vs : List Float) (kept : ℕ) (ka ta g : List Float) (c : List �
   unfolding refusal first
   refused z =
       builds-refused ks ts vs kept ka ta g c n
-      (chain-same short wrong small n (first (ltb 64 (length (surface ks ts vs kept .strikes))) 16 (first (ltb 32 (length (surface ks ts vs kept .expiries))) 17 none)) h z) z
+      (chain-same short wrong small n (axesRefusal (length (surface ks ts vs kept .strikes)) (length (surface ks ts vs kept .expiries))) h z) z

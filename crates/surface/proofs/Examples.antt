@@ -1,8 +1,7 @@
 -- Document 01's desk examples of the surface, by computation. Assumes nothing.
-use Prim.Native.Nat.{ℕ, _+_, _*_, _^_}
+use Prim.Native.Nat.{_+_, _*_, _^_}
 use mathlib.Core.Path.{_≡_, refl}
 use mathlib.Core.List.{List, [], _∷_}
-use lib.ListN.{length}
 use lib.Ieee.{Float, sub, lt, add, div, round}
 use Rattle.floats.specs.Operators.{decimal}
 use Rattle.floats.specs.Values.{magnitude}

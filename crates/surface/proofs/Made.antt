@@ -1,20 +1,18 @@
 -- From the axes that a build made to what it promises. Assumes nothing.
-use Prim.Native.Nat.{ℕ, _≤_, _<_}
-use mathlib.Core.Path.{_≡_, refl, sym, _∙_, ap, subst}
+use Prim.Native.Nat.{ℕ, _≤_}
+use mathlib.Core.Path.{_≡_, sym, _∙_, ap, subst}
 use mathlib.Core.List.{List}
 use native.Mathlib.Omega.{arith}
 use lib.ListN.{length, take}
 use lib.Seq.{length-take-le}
 use lib.Ieee.{Float}
-use borrow.Author.Tests.{lt-ltb, le-ltb}
-use Rattle.limits.specs.Checks.{first}
 use Rattle.surface.specs.Quotes.{quotes}
 use Rattle.surface.specs.Axis.{axis}
 use Rattle.surface.specs.Cells.{Axes, axes, Housed, cell, count}
-use Rattle.surface.specs.Build.{front, table, refusal, numberOf, surface, Builds}
+use Rattle.surface.specs.Build.{front, table, surface, Builds}
 use Rattle.surface.specs.declared.Built.the-variants.{Surface, Refused}
 use Rattle.surface.proofs.Kept.{strikes-of, expiries-of}
-use Rattle.surface.proofs.BuildChecks.{Passed, builds-refused, builds-done}
+use Rattle.surface.proofs.BuildChecks.{axesRefusal, Passed, builds-refused, builds-done}
 use Rattle.surface.proofs.Housing.{all-housed}
 
 pub made-size : (K W : List Float) (n : ℕ) → n ≤ length W → take n W ≡ K → n ≡ length K
@@ -32,17 +30,11 @@ module _ {ks ts vs : List Float} {kept : ℕ} {ka ta g : List Float} {c : List �
   expiries-made W n e =
       e ∙ ap (λ (l : List Float). axis l) (sym (expiries-of ks ts vs kept (omega (arith, P .strikes, P .few)) (omega (arith, P .expiries, P .few)) (omega (arith, P .volatilities, P .few))))
 
-  pub refused-16 : (n : ℕ) → n ≡ length (surface ks ts vs kept .strikes) → 64 < n → Builds ks ts vs kept ka ta g c (Refused 16) ka ta g c
-  unfolding first
-  refused-16 n e h =
-      builds-refused ks ts vs kept ka ta g c 16 (P .number (length (surface ks ts vs kept .strikes)) (length (surface ks ts vs kept .expiries)) ∙ rw (← e, lt-ltb 64 n h)) (λ z. omega arith)
-
-  pub refused-17 : (n m : ℕ) → n ≡ length (surface ks ts vs kept .strikes) → m ≡ length (surface ks ts vs kept .expiries) → n ≤ 64 → 32 < m
-      → Builds ks ts vs kept ka ta g c (Refused 17) ka ta g c
-  unfolding first
-  refused-17 n m e f h k =
-      builds-refused ks ts vs kept ka ta g c 17
-      (P .number (length (surface ks ts vs kept .strikes)) (length (surface ks ts vs kept .expiries)) ∙ rw (← e, ← f, le-ltb 64 n h, lt-ltb 32 m k)) (λ z. omega arith)
+  pub axes-refused : (n m number : ℕ) → n ≡ length (surface ks ts vs kept .strikes) → m ≡ length (surface ks ts vs kept .expiries) → number ≡ axesRefusal n m → (number ≡ 0 → ⊥)
+      → Builds ks ts vs kept ka ta g c (Refused number) ka ta g c
+  axes-refused n m number e f h z =
+      builds-refused ks ts vs kept ka ta g c number
+      (P .number (length (surface ks ts vs kept .strikes)) (length (surface ks ts vs kept .expiries)) ∙ rw (← e, ← f) (sym h)) z
 
   -- with both axes K and E made
   module _ (K E : List Float) (hK : K ≡ surface ks ts vs kept .strikes) (hE : E ≡ surface ks ts vs kept .expiries) where
@@ -52,17 +44,16 @@ module _ {ks ts vs : List Float} {kept : ℕ} {ka ta g : List Float} {c : List �
     pub made-housed : Housed (record { strikes = K; expiries = E }) (quotes kept ks ts vs)
     made-housed = subst (λ (x : Axes). Housed x (quotes kept ks ts vs)) (sym same-axes) (all-housed (quotes kept ks ts vs) (P .ranged))
 
-    pub made-built : (ka' ta' g' : List Float) (c' : List ℕ) (n m : ℕ) → n ≡ length K → m ≡ length E → n ≤ 64 → m ≤ 32
+    pub made-built : (ka' ta' g' : List Float) (c' : List ℕ) (n m : ℕ) → n ≡ length K → m ≡ length E → axesRefusal n m ≡ 0
         → ka' ≡ front K ka → ta' ≡ front E ta
         → g' ≡ table (length E) (length K) (cell (record { strikes = K; expiries = E }) (quotes kept ks ts vs)) g
         → c' ≡ table (length E) (length K) (λ i j. count (record { strikes = K; expiries = E }) i j (quotes kept ks ts vs)) c
         → Builds ks ts vs kept ka ta g c (Surface n m) ka' ta' g' c'
-    unfolding first
-    made-built ka' ta' g' c' n m e f h k a b d r =
+    made-built ka' ta' g' c' n m e f h a b d r =
         let lk : n ≡ length (surface ks ts vs kept .strikes) = e ∙ ap (λ (l : List Float). length l) hK in
         let le : m ≡ length (surface ks ts vs kept .expiries) = f ∙ ap (λ (l : List Float). length l) hE in
         builds-done ks ts vs kept ka ta g c ka' ta' g' c' n m
-        (P .number (length (surface ks ts vs kept .strikes)) (length (surface ks ts vs kept .expiries)) ∙ rw (← lk, ← le, le-ltb 64 n h, le-ltb 32 m k))
+        (P .number (length (surface ks ts vs kept .strikes)) (length (surface ks ts vs kept .expiries)) ∙ rw (← lk, ← le) h)
         lk le
         (a ∙ ap (λ (l : List Float). front l ka) hK)
         (b ∙ ap (λ (l : List Float). front l ta) hE)

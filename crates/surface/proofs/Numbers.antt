@@ -1,6 +1,6 @@
 -- A counted cell holds a number: volatilities above 0 add up to no not-a-number, and a count is a float above 0. Assumes nothing.
 use Prim.Native.Nat.{ℕ, suc, zero, _+_, _*_, _^_, _≤_, _<_}
-use mathlib.Core.Path.{_≡_, refl, sym, _∙_}
+use mathlib.Core.Path.{_≡_, refl, sym}
 use mathlib.Core.Bool.{Bool, true, false, _&&_, cond, true≢false}
 use mathlib.Core.List.{List, [], _∷_}
 use native.Mathlib.Omega.{arith}

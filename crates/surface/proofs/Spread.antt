@@ -1,6 +1,6 @@
 -- On an axis of values that are finite and above 0, every value has a place; axis values are among the values, above one another and not near one
 -- another, so that each is its own place. Assumes nothing.
-use Prim.Native.Nat.{ℕ, zero, suc, _+_, _-_, _*_, _≤_, _<_}
+use Prim.Native.Nat.{ℕ, zero, suc, _-_, _*_, _≤_, _<_}
 use mathlib.Core.Path.{_≡_, refl, sym, ap, _∙_, subst}
 use mathlib.Core.Bool.{Bool, true, false, _&&_, _||_}
 use mathlib.Core.Logic.{_⊎_, inl, inr}
@@ -9,7 +9,7 @@ use native.Mathlib.Nat.{mul-right-comm, mul-le-mul-right, le-of-eq, le-of-suc-le
 use native.Mathlib.Omega.{arith}
 use lib.Dec.{T, ltb, eqb, ltb→lt, eqb→eq}
 use lib.ListN.{length, getD}
-use lib.Ieee.{Float, nan, inf, fin, binary64, sub, lt, le, up, down, round}
+use lib.Ieee.{Float, nan, inf, fin, binary64, lt, le, up, down, round}
 use lib.Ieee.Bits.{is-true}
 use lib.Ieee.Fits.{down-pos}
 use lib.Ieee.Scale.{round-same}

@@ -10,7 +10,7 @@ use Rattle.limits.specs.Checks.{first, none}
 use Rattle.limits.specs.Outcome.{Outcome, done, refused}
 use Rattle.grid.specs.Answers.{answered, unlessRefused}
 use Rattle.grid.specs.Layout.{cellAt, values, partly}
-use Rattle.surface.specs.Quotes.{Quote, quotes, allInRange}
+use Rattle.surface.specs.Quotes.{quotes, allInRange}
 use Rattle.surface.specs.Cells.{Axes, axes, count, cell}
 use Rattle.surface.specs.declared.Built.{Built}
 use Rattle.surface.specs.declared.Built.the-variants.{Surface, Refused}
@@ -48,7 +48,7 @@ noLengths = record { strikes = 0; expiries = 0 }
 -- The answer in document 01's terms.
 abbrev pub outcome : Built → Outcome Lengths
 outcome (Surface strikes expiries) = done (record { strikes = strikes; expiries = expiries })
-outcome (Refused number) = refused number noLengths
+outcome (Refused number) = refused number (record { strikes = 0; expiries = 0 })
 
 -- What a call of `build` does with the quotes of its columns. `number` is what its checks give; each lent buffer stands as at entry and at exit.
 module _ (ks ts vs : List Float) (kept : ℕ) where

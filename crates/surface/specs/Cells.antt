@@ -54,7 +54,7 @@ unfoldable pub rightward : (ℕ → ℕ) → ℕ → ℕ → Option ℕ
 rightward c j zero = none
 rightward c j (suc n) = if ltb 0 (c j) then some j else rightward c (suc j) n
 
--- The left one, else the right one. A row in use has a counted column, so the last line is never met (proofs/Rows).
+-- The left one, else the right one. A row in use has a counted column, so the last line is never met (proofs/Housing).
 abbrev pub either : Option ℕ → Option ℕ → ℕ
 either (some k) right = k
 either none (some k) = k

@@ -2,12 +2,13 @@
 ghost use mathlib.Core.Path.{_≡_};
 ghost use mathlib.Core.Bool.{_&&_};
 ghost use mathlib.Core.List.{_∷_, _++_};
-ghost use Prim.Native.Nat.{suc, _+_, _*_, _≤_, _<_};
-ghost use lib.Dec.{eqb};
+ghost use Prim.Native.Nat.{suc, _≤_, _<_};
+ghost use lib.Dec.{ltb, eqb};
 ghost use lib.ListN.{length, take, drop, getD};
 ghost use lib.Ieee.{nan};
 ghost use Rattle.floats.specs.Operators.{decimal, _≺_, _⊘_, if_then_else_};
 ghost use Rattle.limits.specs.Ranges.{isStrike, isExpiry, isVolatility};
+ghost use Rattle.limits.specs.Checks.{first, none};
 ghost use Rattle.grid.specs.Search.{firstWhere};
 ghost use Rattle.grid.specs.Layout.{cellAt, values};
 ghost use Rattle.surface.specs.Quotes.{quotes, allInRange};
@@ -348,6 +349,19 @@ fn build_number(
     0
 }
 
+// 16 and 17, of the axes' lengths.
+fn axes_number(strikes: usize, expiries: usize) -> u64
+    ensures { λ r. ⌜ r ≡ first (ltb 64 strikes) 16 (first (ltb 32 expiries) 17 none) ⌝ }
+{
+    if strikes > 64 {
+        return 16;
+    }
+    if expiries > 32 {
+        return 17;
+    }
+    0
+}
+
 pub enum Built {
     Surface { strikes: usize, expiries: usize },
     Refused { number: u64 },
@@ -382,13 +396,11 @@ pub fn build(
     let n = count as usize;
     let mut ks = [0.0f64; 1024];
     let columns = make_axis(&mut ks, strikes, n);
-    if columns > 64 {
-        return Built::Refused { number: 16 };
-    }
     let mut ts = [0.0f64; 1024];
     let rows = make_axis(&mut ts, expiries, n);
-    if rows > 32 {
-        return Built::Refused { number: 17 };
+    let number = axes_number(columns, rows);
+    if number != 0 {
+        return Built::Refused { number };
     }
     fill_cells(
         grid,

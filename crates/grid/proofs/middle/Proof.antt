@@ -2,7 +2,6 @@
 use lib.ListN.{List·getD-eq-default}
 use Prim.Native.Nat.{_-_}
 use mathlib.Core.Path.{sym, _∙_}
-use mathlib.Core.List.{List}
 use lib.Ieee.{nan}
 use borrow.Author.Needs.{needs}
 use Rattle.grid.proofs.middle.Statement.{statement}

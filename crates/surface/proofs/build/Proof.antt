@@ -1,10 +1,10 @@
 -- `surface::build`: what no check turned down has axes that fit, and every quote a cell on them. Assumes nothing.
-use Rattle.surface.proofs.BuildChecks.{Passed, passed, refused}
-use Rattle.surface.proofs.Made.{strikes-made, expiries-made, made-size, refused-16, refused-17, made-housed, made-built}
+use Rattle.surface.proofs.BuildChecks.{Passed, passed, refused, axes-fit}
+use Rattle.surface.proofs.Made.{strikes-made, expiries-made, made-size, axes-refused, made-housed, made-built}
 use Rattle.surface.specs.Build.{refusal}
 use lib.Seq.{length-take-le}
 use Prim.Native.Nat.{ℕ, _-_, _≤_}
-use mathlib.Core.Path.{_≡_, sym}
+use mathlib.Core.Path.{_≡_, sym, _∙_}
 use lib.ListN.{length}
 use borrow.Author.Needs.{needs}
 use native.Mathlib.Omega.{arith}
@@ -37,35 +37,34 @@ make-axis-requires c κs =
     let P = entered (c .before .before .before .before .before .before .before .before .before .before) _ (c .before .before .build-number .ensures) (c .before .if1 .left) in
     (P .few, omega (arith, P .few, P .strikes))
 
-returns-2 : tie.Need-returns-2
-returns-2 c =
-    let P = entered (c .before .before .before .before .before .before .before .before .before .before .before .before .before) _ (c .before .before .before .before .before .build-number .ensures) (c .before .before .before .before .if1 .left) in
-    let K = c .before .before .make-axis in
-    let kb : K .result ≤ length (K .last .0) = omega (arith, K .ensures .1, K .kept .0, P .few) in
-    let hk = strikes-made P (K .last .0) (K .result) (K .ensures .0) in
-    refused-16 P (K .result) (made-size _ (K .last .0) (K .result) kb hk) (c .if2 .taken)
-
 slice-aggregate-make-axis-2 : tie.Need-slice-aggregate-make-axis-2
 slice-aggregate-make-axis-2 c = search needs
 
 make-axis-requires-2 : tie.Need-make-axis-requires-2
 make-axis-requires-2 c κs =
-    let P = entered (c .before .before .before .before .before .before .before .before .before .before .before .before .before .before) _ (c .before .before .before .before .before .before .build-number .ensures) (c .before .before .before .before .before .if1 .left) in
+    let P = entered (c .before .before .before .before .before .before .before .before .before .before .before .before .before) _ (c .before .before .before .before .before .build-number .ensures) (c .before .before .before .before .if1 .left) in
     (P .few, omega (arith, P .few, P .expiries))
 
-returns-3 : tie.Need-returns-3
-returns-3 c =
+axes-number-requires : tie.Need-axes-number-requires
+axes-number-requires c κs = search needs
+
+returns-2 : tie.Need-returns-2
+returns-2 c =
     let P = entered (c .before .before .before .before .before .before .before .before .before .before .before .before .before .before .before .before .before) _ (c .before .before .before .before .before .before .before .before .before .build-number .ensures) (c .before .before .before .before .before .before .before .before .if1 .left) in
     let K = c .before .before .before .before .before .before .make-axis in
     let kb : K .result ≤ length (K .last .0) = omega (arith, K .ensures .1, K .kept .0, P .few) in
-    let E = c .before .before .make-axis2 in
+    let E = c .before .before .before .make-axis2 in
     let eb : E .result ≤ length (E .last .0) = omega (arith, E .ensures .1, E .kept .0, P .few) in
     let hk = strikes-made P (K .last .0) (K .result) (K .ensures .0) in
     let he = expiries-made P (E .last .0) (E .result) (E .ensures .0) in
-    refused-17 P (K .result) (E .result) (made-size _ (K .last .0) (K .result) kb hk) (made-size _ (E .last .0) (E .result) eb he) (c .before .before .before .before .if2 .left) (c .if3 .taken)
+    axes-refused P (K .result) (E .result) _ (made-size _ (K .last .0) (K .result) kb hk) (made-size _ (E .last .0) (E .result) eb he) (c .before .axes-number .ensures) (c .if2 .taken)
 
 array-share-prefix-ks : tie.Need-array-share-prefix-ks
-array-share-prefix-ks c = search needs
+array-share-prefix-ks c =
+    let P = entered (c .before .before .before .before .before .before .before .before .before .before .before .before .before .before .before .before .before .before .before) _ (c .before .before .before .before .before .before .before .before .before .before .before .build-number .ensures) (c .before .before .before .before .before .before .before .before .before .before .if1 .left) in
+    let K = c .before .before .before .before .before .before .before .before .make-axis in
+    let kb : K .result ≤ length (K .last .0) = omega (arith, K .ensures .1, K .kept .0, P .few) in
+    kb
 
 slice-aggregate-fill-cells : tie.Need-slice-aggregate-fill-cells
 slice-aggregate-fill-cells c =
@@ -75,12 +74,16 @@ slice-aggregate-fill-cells c =
     sym (length-take-le (K .result) (K .last .0) kb)
 
 array-share-prefix-ts : tie.Need-array-share-prefix-ts
-array-share-prefix-ts c = search needs
+array-share-prefix-ts c =
+    let P = entered (c .before .before .before .before .before .before .before .before .before .before .before .before .before .before .before .before .before .before .before .before) _ (c .before .before .before .before .before .before .before .before .before .before .before .before .build-number .ensures) (c .before .before .before .before .before .before .before .before .before .before .before .if1 .left) in
+    let E = c .before .before .before .before .before .before .make-axis2 in
+    let eb : E .result ≤ length (E .last .0) = omega (arith, E .ensures .1, E .kept .0, P .few) in
+    eb
 
 slice-aggregate-fill-cells-2 : tie.Need-slice-aggregate-fill-cells-2
 slice-aggregate-fill-cells-2 c =
     let P = entered (c .before .before .before .before .before .before .before .before .before .before .before .before .before .before .before .before .before .before .before .before .before) _ (c .before .before .before .before .before .before .before .before .before .before .before .before .before .build-number .ensures) (c .before .before .before .before .before .before .before .before .before .before .before .before .if1 .left) in
-    let E = c .before .before .before .before .before .before .make-axis2 in
+    let E = c .before .before .before .before .before .before .before .make-axis2 in
     let eb : E .result ≤ length (E .last .0) = omega (arith, E .ensures .1, E .kept .0, P .few) in
     sym (length-take-le (E .result) (E .last .0) eb)
 
@@ -89,11 +92,12 @@ fill-cells-requires c κs =
     let P = entered (c .before .before .before .before .before .before .before .before .before .before .before .before .before .before .before .before .before .before .before .before .before) _ (c .before .before .before .before .before .before .before .before .before .before .before .before .before .build-number .ensures) (c .before .before .before .before .before .before .before .before .before .before .before .before .if1 .left) in
     let K = c .before .before .before .before .before .before .before .before .before .before .make-axis in
     let kb : K .result ≤ length (K .last .0) = omega (arith, K .ensures .1, K .kept .0, P .few) in
-    let E = c .before .before .before .before .before .before .make-axis2 in
+    let E = c .before .before .before .before .before .before .before .make-axis2 in
     let eb : E .result ≤ length (E .last .0) = omega (arith, E .ensures .1, E .kept .0, P .few) in
     let hk = strikes-made P (K .last .0) (K .result) (K .ensures .0) in
-    let he = expiries-made P (E .last .0) (E .result) (E .ensures .0) in (
-      (P .long-grid, P .long-counts, omega (arith, length-take-le (K .result) (K .last .0) kb, c .before .before .before .before .before .before .before .before .if2 .left), omega (arith, length-take-le (E .result) (E .last .0) eb, c .before .before .before .before .if3 .left)),
+    let he = expiries-made P (E .last .0) (E .result) (E .ensures .0) in
+    let fit = axes-fit (K .result) (E .result) (sym (c .before .before .before .before .before .axes-number .ensures) ∙ c .before .before .before .before .if2 .left) in (
+      (P .long-grid, P .long-counts, omega (arith, length-take-le (K .result) (K .last .0) kb, fit .0), omega (arith, length-take-le (E .result) (E .last .0) eb, fit .1)),
       (
         (P .few, omega (arith, P .few, P .strikes), omega (arith, P .few, P .expiries), omega (arith, P .few, P .volatilities)),
         made-housed P _ _ hk he,
@@ -101,7 +105,11 @@ fill-cells-requires c κs =
     )
 
 array-share-prefix-ks-2 : tie.Need-array-share-prefix-ks-2
-array-share-prefix-ks-2 c = search needs
+array-share-prefix-ks-2 c =
+    let P = entered (c .before .before .before .before .before .before .before .before .before .before .before .before .before .before .before .before .before .before .before .before .before .before .before .before .before .before .before) _ (c .before .before .before .before .before .before .before .before .before .before .before .before .before .before .before .before .before .before .before .build-number .ensures) (c .before .before .before .before .before .before .before .before .before .before .before .before .before .before .before .before .before .before .if1 .left) in
+    let K = c .before .before .before .before .before .before .before .before .before .before .before .before .before .before .before .before .make-axis in
+    let kb : K .result ≤ length (K .last .0) = omega (arith, K .ensures .1, K .kept .0, P .few) in
+    kb
 
 slice-aggregate-copy-front : tie.Need-slice-aggregate-copy-front
 slice-aggregate-copy-front c =
@@ -115,24 +123,34 @@ copy-front-requires c κs =
     let P = entered (c .before .before .before .before .before .before .before .before .before .before .before .before .before .before .before .before .before .before .before .before .before .before .before .before .before .before .before .before) _ (c .before .before .before .before .before .before .before .before .before .before .before .before .before .before .before .before .before .before .before .before .build-number .ensures) (c .before .before .before .before .before .before .before .before .before .before .before .before .before .before .before .before .before .before .before .if1 .left) in
     let K = c .before .before .before .before .before .before .before .before .before .before .before .before .before .before .before .before .before .make-axis in
     let kb : K .result ≤ length (K .last .0) = omega (arith, K .ensures .1, K .kept .0, P .few) in
-    omega (arith, length-take-le (K .result) (K .last .0) kb, c .before .before .before .before .before .before .before .before .before .before .before .before .before .before .before .if2 .left, P .long-strikes)
+    let E = c .before .before .before .before .before .before .before .before .before .before .before .before .before .before .make-axis2 in
+    let eb : E .result ≤ length (E .last .0) = omega (arith, E .ensures .1, E .kept .0, P .few) in
+    let fit = axes-fit (K .result) (E .result) (sym (c .before .before .before .before .before .before .before .before .before .before .before .before .axes-number .ensures) ∙ c .before .before .before .before .before .before .before .before .before .before .before .if2 .left) in
+    omega (arith, length-take-le (K .result) (K .last .0) kb, fit .0, P .long-strikes)
 
 array-share-prefix-ts-2 : tie.Need-array-share-prefix-ts-2
-array-share-prefix-ts-2 c = search needs
+array-share-prefix-ts-2 c =
+    let P = entered (c .before .before .before .before .before .before .before .before .before .before .before .before .before .before .before .before .before .before .before .before .before .before .before .before .before .before .before .before .before .before .before .before) _ (c .before .before .before .before .before .before .before .before .before .before .before .before .before .before .before .before .before .before .before .before .before .before .before .before .build-number .ensures) (c .before .before .before .before .before .before .before .before .before .before .before .before .before .before .before .before .before .before .before .before .before .before .before .if1 .left) in
+    let E = c .before .before .before .before .before .before .before .before .before .before .before .before .before .before .before .before .before .before .make-axis2 in
+    let eb : E .result ≤ length (E .last .0) = omega (arith, E .ensures .1, E .kept .0, P .few) in
+    eb
 
 slice-aggregate-copy-front-2 : tie.Need-slice-aggregate-copy-front-2
 slice-aggregate-copy-front-2 c =
     let P = entered (c .before .before .before .before .before .before .before .before .before .before .before .before .before .before .before .before .before .before .before .before .before .before .before .before .before .before .before .before .before .before .before .before .before) _ (c .before .before .before .before .before .before .before .before .before .before .before .before .before .before .before .before .before .before .before .before .before .before .before .before .before .build-number .ensures) (c .before .before .before .before .before .before .before .before .before .before .before .before .before .before .before .before .before .before .before .before .before .before .before .before .if1 .left) in
-    let E = c .before .before .before .before .before .before .before .before .before .before .before .before .before .before .before .before .before .before .make-axis2 in
+    let E = c .before .before .before .before .before .before .before .before .before .before .before .before .before .before .before .before .before .before .before .make-axis2 in
     let eb : E .result ≤ length (E .last .0) = omega (arith, E .ensures .1, E .kept .0, P .few) in
     sym (length-take-le (E .result) (E .last .0) eb)
 
 copy-front-requires-2 : tie.Need-copy-front-requires-2
 copy-front-requires-2 c κs =
     let P = entered (c .before .before .before .before .before .before .before .before .before .before .before .before .before .before .before .before .before .before .before .before .before .before .before .before .before .before .before .before .before .before .before .before .before) _ (c .before .before .before .before .before .before .before .before .before .before .before .before .before .before .before .before .before .before .before .before .before .before .before .before .before .build-number .ensures) (c .before .before .before .before .before .before .before .before .before .before .before .before .before .before .before .before .before .before .before .before .before .before .before .before .if1 .left) in
-    let E = c .before .before .before .before .before .before .before .before .before .before .before .before .before .before .before .before .before .before .make-axis2 in
+    let K = c .before .before .before .before .before .before .before .before .before .before .before .before .before .before .before .before .before .before .before .before .before .before .make-axis in
+    let kb : K .result ≤ length (K .last .0) = omega (arith, K .ensures .1, K .kept .0, P .few) in
+    let E = c .before .before .before .before .before .before .before .before .before .before .before .before .before .before .before .before .before .before .before .make-axis2 in
     let eb : E .result ≤ length (E .last .0) = omega (arith, E .ensures .1, E .kept .0, P .few) in
-    omega (arith, length-take-le (E .result) (E .last .0) eb, c .before .before .before .before .before .before .before .before .before .before .before .before .before .before .before .before .if3 .left, P .long-expiries)
+    let fit = axes-fit (K .result) (E .result) (sym (c .before .before .before .before .before .before .before .before .before .before .before .before .before .before .before .before .before .axes-number .ensures) ∙ c .before .before .before .before .before .before .before .before .before .before .before .before .before .before .before .before .if2 .left) in
+    omega (arith, length-take-le (E .result) (E .last .0) eb, fit .1, P .long-expiries)
 
 same-length : tie.Need-same-length
 same-length c = search needs
@@ -146,18 +164,18 @@ same-length-3 c = search needs
 same-length-4 : tie.Need-same-length-4
 same-length-4 c = search needs
 
-returns-4 : tie.Need-returns-4
-returns-4 c =
+returns-3 : tie.Need-returns-3
+returns-3 c =
     let P = entered (c .before .before .before .before .before .before .before .before .before .before .before .before .before .before .before .before .before .before .before .before .before .before .before .before .before .before .before .before .before .before .before .before .before .before .before .before) _ (c .before .before .before .before .before .before .before .before .before .before .before .before .before .before .before .before .before .before .before .before .before .before .before .before .before .before .before .before .build-number .ensures) (c .before .before .before .before .before .before .before .before .before .before .before .before .before .before .before .before .before .before .before .before .before .before .before .before .before .before .before .if1 .left) in
     let K = c .before .before .before .before .before .before .before .before .before .before .before .before .before .before .before .before .before .before .before .before .before .before .before .before .before .make-axis in
     let kb : K .result ≤ length (K .last .0) = omega (arith, K .ensures .1, K .kept .0, P .few) in
-    let E = c .before .before .before .before .before .before .before .before .before .before .before .before .before .before .before .before .before .before .before .before .before .make-axis2 in
+    let E = c .before .before .before .before .before .before .before .before .before .before .before .before .before .before .before .before .before .before .before .before .before .before .make-axis2 in
     let eb : E .result ≤ length (E .last .0) = omega (arith, E .ensures .1, E .kept .0, P .few) in
     let hk = strikes-made P (K .last .0) (K .result) (K .ensures .0) in
     let he = expiries-made P (E .last .0) (E .result) (E .ensures .0) in
     let F = c .before .before .before .before .before .before .before .before .before .before .before .before .before .before .fill-cells .ensures in
     made-built P _ _ hk he _ _ _ _ (K .result) (E .result) (sym (length-take-le (K .result) (K .last .0) kb)) (sym (length-take-le (E .result) (E .last .0) eb))
-    (c .before .before .before .before .before .before .before .before .before .before .before .before .before .before .before .before .before .before .before .before .before .before .before .if2 .left) (c .before .before .before .before .before .before .before .before .before .before .before .before .before .before .before .before .before .before .before .if3 .left) (c .before .before .before .before .before .before .before .copy-front .ensures) (c .before .before .copy-front2 .ensures) (F .cells) (F .counted)
+    (sym (c .before .before .before .before .before .before .before .before .before .before .before .before .before .before .before .before .before .before .before .before .axes-number .ensures) ∙ c .before .before .before .before .before .before .before .before .before .before .before .before .before .before .before .before .before .before .before .if2 .left) (c .before .before .before .before .before .before .before .copy-front .ensures) (c .before .before .copy-front2 .ensures) (F .cells) (F .counted)
 
 pub build-spec : {M : Type 1} → statement M
 build-spec =
@@ -167,10 +185,10 @@ build-spec =
     returns
     slice-aggregate-make-axis
     make-axis-requires
-    returns-2
     slice-aggregate-make-axis-2
     make-axis-requires-2
-    returns-3
+    axes-number-requires
+    returns-2
     array-share-prefix-ks
     slice-aggregate-fill-cells
     array-share-prefix-ts
@@ -186,4 +204,4 @@ build-spec =
     same-length-2
     same-length-3
     same-length-4
-    returns-4)
+    returns-3)

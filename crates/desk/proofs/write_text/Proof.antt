@@ -1,0 +1,36 @@
+-- `desk::write_text`: the text stands within the buffer. Assumes nothing.
+use mathlib.Core.Path.{sym}
+use lib.Seq.{length-take-le}
+use borrow.Author.Needs.{needs}
+use Rattle.desk.proofs.write_text.Statement.{statement}
+use Rattle.desk.proofs.write_text.Tie as tie
+
+enum-known-text : tie.Need-enum-known-text
+enum-known-text c = search needs
+
+slice-aggregate-write-all : tie.Need-slice-aggregate-write-all
+slice-aggregate-write-all c =
+    sym (length-take-le _ (c .before .before .before .before .before .args .out .now) (rw (c .before .before .text .given .1) at (c .before .before .before .before .before .pre)))
+
+write-all-requires : tie.Need-write-all-requires
+write-all-requires c κs = search needs
+
+enum-told : tie.Need-enum-told
+enum-told c = search needs
+
+returns : tie.Need-returns
+returns c = search needs
+
+returns-2 : tie.Need-returns-2
+returns-2 c = search needs
+
+pub write-text-spec : {M : Type 1} → statement M
+write-text-spec =
+    tie.close
+    (tie.spec
+    enum-known-text
+    slice-aggregate-write-all
+    write-all-requires
+    enum-told
+    returns
+    returns-2)
