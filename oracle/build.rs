@@ -1,5 +1,5 @@
 // Takes the Rust from where it is (FIN_PRIMITIVES, or shared/docs/src beside the repository) and makes one file of it in the build folder.
-// All that is changed stands in the four lists below, and each entry must be found.
+// All that is changed stands in the lists below, and each entry must be found.
 use std::{env, fs, path::Path, path::PathBuf};
 
 type List = &'static [(&'static str, &'static str)];
@@ -34,6 +34,12 @@ const NOTES: [(&str, List); 2] = [
         ],
     ),
     ("surface", &[("// Average, filling zeros", "crate::notes::counts(&cnt_grid);\n        // Average, filling zeros")]),
+];
+
+/// For the comparison alone: the solver on any prices, as document 01's stands alone "fed one price at a time by any model".
+const FED: List = &[
+    ("bsm_price(&p).unwrap_or(f64::NAN) - market_price", "crate::notes::fed(p.volatility) - market_price"),
+    ("return Ok(b);", "crate::notes::found(b, fb, c, fc);\n            return Ok(b);"),
 ];
 
 /// For the comparison alone: the fields and the gap filler of a surface are private to its module.
@@ -93,6 +99,7 @@ fn main() {
         + &module(&root, "greeks", "greeks", &[greeks, PROCESSOR], "")
         + &module(&root, "greeks_digits", "greeks", &[greeks, DIGITS], "")
         + &module(&root, "greeks_noted", "greeks", &[greeks, PROCESSOR, of(&NOTES, "greeks")], "")
+        + &module(&root, "greeks_fed", "greeks", &[greeks, PROCESSOR, FED], "")
         + &module(&root, "surface", "surface", &[surface], "")
         + &module(&root, "surface_noted", "surface", &[surface, of(&NOTES, "surface")], OPENED);
     let out = PathBuf::from(env::var("OUT_DIR").unwrap()).join("fin_primitives.rs");

@@ -298,6 +298,47 @@ pub fn implied(r: &mut Random, family: Family) -> Asked {
     }
 }
 
+// ---- the solver alone
+
+/// A market price and a model of any kind: smooth, steep, flat, stepped, noisy, or no function at all.
+pub fn model(r: &mut Random, family: Family) -> (f64, crate::notes::Model) {
+    let market = match family {
+        Damaged if r.once_in(3) => r.pick(&DAMAGES),
+        Edge => r.pick(&[SUBNORMAL, f64::MIN_POSITIVE, 0.000001, 1e-300, 1e300, f64::MAX, 1.0]),
+        Ordinary => r.uniform(0.5, 50.0),
+        _ => r.magnitude(1e-9, 1e9),
+    };
+    let root = if r.flip() { r.magnitude(VOLATILITY.0, VOLATILITY.1) } else { r.uniform(0.0, 10.0) };
+    let (size, other) = (r.magnitude(1e-9, 1e9), r.magnitude(1e-9, 1e9));
+    let power = r.pick(&[1, 3, 5, 9, 25]);
+    let mut noise = Random(r.next());
+    let shape = r.below(8);
+    let broken = family == Damaged;
+    let mut calls = 0;
+    let error = move |v: f64| -> f64 {
+        calls += 1;
+        let x = v - root;
+        let sign = if x < 0.0 { -1.0 } else { 1.0 };
+        if broken && noise.once_in(6) {
+            return noise.pick(&DAMAGES);
+        }
+        match shape {
+            0 => size * x,
+            1 => size * x.powi(power),
+            2 => if x < 0.0 { -size } else { other },
+            3 => sign * noise.magnitude(1e-9, 1e3),
+            // Signs and sizes that follow no function, but for the ends.
+            4 => if calls == 1 { -size } else if calls == 2 || noise.flip() { noise.magnitude(1e-7, 1e6) } else { -noise.magnitude(1e-7, 1e6) },
+            // One end far, the other near: interpolation crawls.
+            5 => if calls == 1 { -size * 1e9 } else { 0.000002 + size * (11.0 - v) * noise.uniform(0.5, 1.0).min(1.0) },
+            6 => size * (x.abs().sqrt() * sign) + noise.uniform(-1.0, 1.0) * other * 1e-6,
+            _ => if calls == 1 { -size } else { size / f64::from(calls) },
+        }
+    };
+    let mut error = error;
+    (market, Box::new(move |v| market + error(v)))
+}
+
 // ---- surfaces
 
 #[derive(Clone, Debug, Default)]

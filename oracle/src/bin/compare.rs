@@ -11,10 +11,12 @@ use oracle::greeks_noted::{bsm_greeks, bsm_price, implied_volatility, GreekError
 use oracle::questions::{self, Asked, Family, Made, Offers, Quotes, FAMILIES, FUNCTIONS, MARKET, OPTION};
 use oracle::random::Random;
 use oracle::surface_noted::{VolPoint, VolSurface};
-use oracle::{greeks_noted, normal, notes, reference};
+use oracle::{greeks_fed, greeks_noted, normal, notes, reference};
 use ours::{Buffers, Tray};
 use std::collections::BTreeMap;
+use std::io::Write;
 use std::panic::{catch_unwind, set_hook, AssertUnwindSafe};
+use std::process::{Command, Stdio};
 
 // ---- verdicts
 
@@ -161,6 +163,22 @@ impl Question for Named {
     }
 }
 
+/// 1, 2, 3 and so on.
+fn counted(n: usize) -> Vec<f64> {
+    (1..=n).map(|i| i as f64).collect()
+}
+
+/// A column of quotes in fewer words: all one value, counted up, or value by value.
+fn column(xs: &[f64]) -> String {
+    if xs.len() > 1 && xs.iter().all(|x| x.to_bits() == xs[0].to_bits()) {
+        format!("all {}", show(xs[0]))
+    } else if xs.len() > 2 && xs == counted(xs.len()) {
+        format!("1 to {}", xs.len())
+    } else {
+        xs.iter().map(|x| show(*x)).collect::<Vec<_>>().join(", ")
+    }
+}
+
 impl Question for Quotes {
     fn smaller(&self) -> Vec<Self> {
         let mut out = Vec::new();
@@ -174,32 +192,49 @@ impl Question for Quotes {
             }
             size /= 2;
         }
-        if n <= 4 {
-            for i in 0..n {
-                for x in simpler(self.strikes[i], 100.0) {
-                    let mut q = self.clone();
-                    q.strikes[i] = x;
-                    out.push(q);
-                }
-                for x in simpler(self.expiries[i], 1.0) {
-                    let mut q = self.clone();
-                    q.expiries[i] = x;
-                    out.push(q);
-                }
-                for x in simpler(self.volatilities[i], 0.25) {
-                    let mut q = self.clone();
-                    q.volatilities[i] = x;
-                    out.push(q);
-                }
+        for (usual, of) in [(100.0, 0), (1.0, 1), (0.25, 2)] {
+            let mut q = self.clone();
+            let column = [&mut q.strikes, &mut q.expiries, &mut q.volatilities];
+            let before: usize = column[of].iter().map(|x| cost(*x, usual)).sum();
+            if before > 0 {
+                let mut all = self.clone();
+                *[&mut all.strikes, &mut all.expiries, &mut all.volatilities][of] = vec![usual; n];
+                out.push(all);
+            }
+            // Whole numbers up to n, from anything that is not.
+            if n > 4 && before > 0 && column[of].iter().any(|x| x.fract() != 0.0 || *x > n as f64 || x.is_nan()) {
+                let mut up = self.clone();
+                *[&mut up.strikes, &mut up.expiries, &mut up.volatilities][of] = counted(n);
+                out.push(up);
+            }
+        }
+        for i in 0..if n <= 24 { n } else { 0 } {
+            for x in simpler(self.strikes[i], 100.0) {
+                let mut q = self.clone();
+                q.strikes[i] = x;
+                out.push(q);
+            }
+            for x in simpler(self.expiries[i], 1.0) {
+                let mut q = self.clone();
+                q.expiries[i] = x;
+                out.push(q);
+            }
+            for x in simpler(self.volatilities[i], 0.25) {
+                let mut q = self.clone();
+                q.volatilities[i] = x;
+                out.push(q);
             }
         }
         out
     }
     fn shown(&self) -> String {
-        let quote = |i: usize| format!("({}, {}, {})", show(self.strikes[i]), show(self.expiries[i]), show(self.volatilities[i]));
-        let most = self.len().min(6);
-        let quotes: Vec<String> = (0..most).map(quote).collect();
-        format!("{} quotes: {}{}", self.len(), quotes.join(" "), if most < self.len() { " .." } else { "" })
+        if self.is_empty() {
+            return "no quotes".to_string();
+        }
+        if self.len() == 1 {
+            return format!("one quote ({}, {}, {})", show(self.strikes[0]), show(self.expiries[0]), show(self.volatilities[0]));
+        }
+        format!("{} quotes: strikes {}; expiries {}; volatilities {}", self.len(), column(&self.strikes), column(&self.expiries), column(&self.volatilities))
     }
 }
 
@@ -467,6 +502,137 @@ fn implied(q: &Named) -> Verdict {
     }
 }
 
+/// The solver alone: a market price, and the prices that it is fed.
+#[derive(Clone)]
+struct Fed {
+    market: f64,
+    prices: Vec<f64>,
+}
+
+impl Question for Fed {
+    fn smaller(&self) -> Vec<Self> {
+        let mut out = Vec::new();
+        for i in 0..self.prices.len() {
+            for x in simpler(self.prices[i], 1.0) {
+                let mut q = self.clone();
+                q.prices[i] = x;
+                out.push(q);
+            }
+        }
+        out.extend(simpler(self.market, 1.0).into_iter().map(|market| Fed { market, ..self.clone() }));
+        if !self.prices.is_empty() {
+            let mut q = self.clone();
+            q.prices.pop();
+            out.insert(0, q);
+        }
+        out
+    }
+    fn shown(&self) -> String {
+        let prices: Vec<String> = self.prices.iter().map(|p| show(*p)).collect();
+        format!("market {}, prices {}", show(self.market), prices.join(" "))
+    }
+}
+
+const OVER: &str = "  state 0000000000000000 0000000000000000 0000000000000000 0000000000000000 0000000000000000 0000000000000000 0000000000000000 0000000000000000 0000000000000000 0 0";
+
+fn bits(x: f64) -> u64 {
+    if x.is_nan() { 0x7ff8_0000_0000_0000 } else { x.to_bits() }
+}
+
+/// What document 01 has a solver say that is fed these prices, where the Rust's loop tells the points, the answer and when it ends.
+fn told(q: &Fed) -> (Vec<String>, Option<u64>, String) {
+    if !checks::is_price(q.market) {
+        return (vec!["refused 5 0".to_string(), OVER.to_string()], Some(5), String::new());
+    }
+    let (mut next, prices) = (0, q.prices.clone());
+    notes::clear();
+    notes::set_model(Box::new(move |_| {
+        next += 1;
+        prices.get(next - 1).copied().unwrap_or(f64::NAN)
+    }));
+    let any = greeks_fed::OptionParams { spot: 1.0, strike: 1.0, time_to_expiry: 1.0, risk_free_rate: 0.0, volatility: 1.0, option_type: greeks_fed::OptionType::Call };
+    let rust = greeks_fed::implied_volatility(q.market, &any);
+    let tried = notes::all_tried();
+    let mut lines = vec![format!("ask {:016x} 0 0", tried[0].0.to_bits())];
+    for (k, price) in q.prices.iter().enumerate() {
+        let made = k as u64 + 1;
+        let last = made == tried.len() as u64;
+        let number = if !(price - q.market).is_finite() {
+            11
+        } else if !last {
+            lines.push(format!("ask {:016x} {} {made}", bits(tried[k + 1].0), made - 1));
+            continue;
+        } else {
+            match &rust {
+                Ok(v) if checks::is_volatility(*v) => 0,
+                Ok(_) => 14,
+                Err(_) if made == 2 => 12,
+                Err(_) => 13,
+            }
+        };
+        if number == 0 {
+            let [b, fb, c, fc] = notes::answer().unwrap().map(bits);
+            lines.push(format!("found {b:016x} {fb:016x} {c:016x} {fc:016x} {made}"));
+        } else {
+            lines.push(format!("refused {number} {made}"));
+        }
+        lines.push(OVER.to_string());
+        return (lines, Some(number), format!("{rust:?}"));
+    }
+    (lines, None, format!("{rust:?}"))
+}
+
+/// Ours: the program brent_test, which starts and feeds the solver a line at a time and writes each answer.
+fn fed_program(questions: &[Fed]) -> Vec<String> {
+    let mut input = String::new();
+    for q in questions {
+        input += &format!("S{:016x}\n", bits(q.market));
+        for p in &q.prices {
+            input += &format!("P{:016x}\n", bits(*p));
+        }
+    }
+    let program = concat!(env!("CARGO_MANIFEST_DIR"), "/../target/bin/brent_test");
+    let mut child = Command::new(program).stdin(Stdio::piped()).stdout(Stdio::piped()).spawn().expect("target/bin/brent_test");
+    let mut stdin = child.stdin.take().unwrap();
+    let writer = std::thread::spawn(move || stdin.write_all(input.as_bytes()).unwrap());
+    let output = child.wait_with_output().unwrap();
+    writer.join().unwrap();
+    String::from_utf8(output.stdout).unwrap().lines().map(str::to_string).collect()
+}
+
+fn fed_verdict((expected, end, rust): &(Vec<String>, Option<u64>, String), got: &[String]) -> Verdict {
+    if let Some(at) = (0..expected.len()).find(|i| got.get(*i) != Some(&expected[*i])) {
+        return Unlisted(format!("answer {at}: ours {:?}, 01's {}", got.get(at), expected[at]));
+    }
+    match end {
+        None => Same("asking".to_string()),
+        Some(0) => Same("answers".to_string()),
+        Some(11) => differs(11, "a price not finite", "goes on", rust),
+        Some(n) => Same(format!("refused by {n}")),
+    }
+}
+
+fn fed(q: &Fed) -> Verdict {
+    fed_verdict(&told(q), &fed_program(std::slice::from_ref(q)))
+}
+
+/// The list of prices that a model gives the Rust's solver, up to the end by 01's rules.
+fn fed_question(r: &mut Random, family: Family) -> Fed {
+    let (market, model) = questions::model(r, family);
+    notes::clear();
+    notes::set_model(model);
+    let any = greeks_fed::OptionParams { spot: 1.0, strike: 1.0, time_to_expiry: 1.0, risk_free_rate: 0.0, volatility: 1.0, option_type: greeks_fed::OptionType::Call };
+    let _ = greeks_fed::implied_volatility(market, &any);
+    let mut prices: Vec<f64> = notes::all_tried().iter().map(|t| t.1).collect();
+    if let Some(end) = prices.iter().position(|p| !(p - market).is_finite()) {
+        prices.truncate(end + 1);
+    }
+    if !checks::is_price(market) {
+        prices.clear();
+    }
+    Fed { market, prices }
+}
+
 /// The Rust's surface with its counts, or that it panicked (its sort may, where the order is none).
 fn rust_surface(q: &Quotes) -> Option<(VolSurface, Vec<Vec<u32>>)> {
     let points = (0..q.len()).map(|i| VolPoint { strike: q.strikes[i], expiry: q.expiries[i], implied_vol: q.volatilities[i] }).collect();
@@ -547,8 +713,11 @@ fn built(q: &Build, b: &mut Buffers) -> (u64, Option<(VolSurface, Vec<Vec<u32>>)
 
 fn build_verdict(q: &Build, b: &Buffers, number: u64, rust: &Option<(VolSurface, Vec<Vec<u32>>)>) -> Verdict {
     let (did, answer) = match rust {
-        None => ("panics in its sort", "user-provided comparison function does not correctly implement a total order".to_string()),
-        Some((s, counts)) => ("builds", format!("{} strikes, {} expiries, counts {:?}", s.strikes().len(), s.expiries().len(), counts.iter().take(2).map(|row| &row[..row.len().min(4)]).collect::<Vec<_>>())),
+        None => ("panics in its sort", "a panic".to_string()),
+        Some((s, counts)) => {
+            let cell = counts.first().and_then(|row| row.first()).map_or(String::new(), |n| format!(", {n} in the first cell"));
+            ("builds", format!("{} strikes, {} expiries{cell}", s.strikes().len(), s.expiries().len()))
+        }
     };
     let short = q.lent[0] < 64 || q.lent[1] < 32 || q.lent[2] < 2048 || q.lent[3] < 2048;
     let (check, cause) = if q.column < 1024 {
@@ -860,6 +1029,8 @@ fn main() {
     k.print("implied volatility");
     kinds.push(("implied volatility".to_string(), k));
 
+    solver(count, random(18), &mut kinds);
+
     surfaces(count, random(13), &mut kinds);
 
     let (mut r, mut k) = (random(15), Kind::default());
@@ -909,6 +1080,43 @@ fn main() {
     kinds.push(("whole trays".to_string(), k));
 
     totals(&kinds);
+}
+
+/// The solver alone, fed any prices: a question is a price fed.
+fn solver(count: u64, mut r: Random, kinds: &mut Vec<(String, Kind)>) {
+    let mut k = Kind::default();
+    let (mut fed_prices, mut most) = (0, 0);
+    while fed_prices < count {
+        // As many as the program takes in one run.
+        let mut batch = Vec::new();
+        let mut lines = 0;
+        while lines < 500_000 && fed_prices + lines < count {
+            for family in FAMILIES {
+                let q = fed_question(&mut r, family);
+                lines += q.prices.len() as u64 + 1;
+                batch.push(q);
+            }
+        }
+        let got = fed_program(&batch);
+        let mut at = 0;
+        for q in batch {
+            let expected = told(&q);
+            let mut verdict = fed_verdict(&expected, &got[at.min(got.len())..]);
+            // After one that differs the lines may no longer match up: ask it alone.
+            if matches!(verdict, Unlisted(_)) && k.unlisted.len() < 5 {
+                verdict = fed(&q);
+            }
+            at += expected.0.len();
+            fed_prices += q.prices.len() as u64;
+            if expected.1 == Some(0) {
+                most = most.max(q.prices.len());
+            }
+            k.ask(verdict, || q, fed);
+        }
+    }
+    k.notes.push(format!("{fed_prices} prices fed, {most} at most where it answered"));
+    k.print("solver fed any prices");
+    kinds.push(("solver fed any prices".to_string(), k));
 }
 
 /// Builds, and readings of what they built.

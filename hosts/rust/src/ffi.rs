@@ -1,0 +1,107 @@
+// The exported functions of crates/host, as ../../c/kitesettee.h declares them. A slice is its pointer and its length.
+extern "C" {
+    pub fn kite_sqrt(x: f64) -> f64;
+    pub fn kite_exp(x: f64) -> f64;
+    pub fn kite_ln(x: f64) -> f64;
+    pub fn kite_erfc(x: f64) -> f64;
+    pub fn kite_pdf(x: f64) -> f64;
+    pub fn kite_cdf(x: f64) -> f64;
+
+    pub fn kite_bsm_price(put: bool, spot: f64, strike: f64, expiry: f64, rate: f64, volatility: f64, price: &mut f64) -> u64;
+
+    pub fn kite_bsm_greeks(put: bool, spot: f64, strike: f64, expiry: f64, rate: f64, volatility: f64, greeks: &mut [f64; 7]) -> u64;
+
+    pub fn kite_implied_volatility(
+        put: bool,
+        market: f64,
+        spot: f64,
+        strike: f64,
+        expiry: f64,
+        rate: f64,
+        values: &mut [f64; 4],
+        evaluations: &mut u64,
+    ) -> u64;
+
+    pub fn kite_quote_tray(
+        spot: f64,
+        rate: f64,
+        prices: *const bool,
+        prices_len: usize,
+        puts: *const bool,
+        puts_len: usize,
+        ks: *const f64,
+        ks_len: usize,
+        ts: *const f64,
+        ts_len: usize,
+        vs: *const f64,
+        vs_len: usize,
+        numbers: *mut u64,
+        numbers_len: usize,
+        solved: *mut f64,
+        solved_len: usize,
+        strikes: *mut f64,
+        strikes_len: usize,
+        expiries: *mut f64,
+        expiries_len: usize,
+        volatilities: *mut f64,
+        volatilities_len: usize,
+        strike_axis: *mut f64,
+        strike_axis_len: usize,
+        expiry_axis: *mut f64,
+        expiry_axis_len: usize,
+        grid: *mut f64,
+        grid_len: usize,
+        counts: *mut u64,
+        counts_len: usize,
+        record: &mut [u64; 4],
+        lengths: &mut [u64; 2],
+    ) -> u64;
+
+    pub fn kite_build(
+        strikes: *const f64,
+        strikes_len: usize,
+        expiries: *const f64,
+        expiries_len: usize,
+        volatilities: *const f64,
+        volatilities_len: usize,
+        count: u64,
+        strike_axis: *mut f64,
+        strike_axis_len: usize,
+        expiry_axis: *mut f64,
+        expiry_axis_len: usize,
+        grid: *mut f64,
+        grid_len: usize,
+        counts: *mut u64,
+        counts_len: usize,
+        lengths: &mut [u64; 2],
+    ) -> u64;
+
+    pub fn kite_fill_gaps(grid: *mut f64, grid_len: usize, strikes: u64, expiries: u64) -> u64;
+
+    pub fn kite_interpolate(
+        strike_axis: *const f64,
+        strike_axis_len: usize,
+        expiry_axis: *const f64,
+        expiry_axis_len: usize,
+        grid: *const f64,
+        grid_len: usize,
+        strikes: u64,
+        expiries: u64,
+        strike: f64,
+        expiry: f64,
+        volatility: &mut f64,
+    ) -> u64;
+
+    pub fn kite_atm_vol(
+        strike_axis: *const f64,
+        strike_axis_len: usize,
+        expiry_axis: *const f64,
+        expiry_axis_len: usize,
+        grid: *const f64,
+        grid_len: usize,
+        strikes: u64,
+        expiries: u64,
+        expiry: f64,
+        volatility: &mut f64,
+    ) -> u64;
+}
