@@ -501,4 +501,5 @@ def main():
     print(out.total, "records; by answer", sorted(out.numbers.items()))
 
 
-main()
+if __name__ == "__main__":
+    main()

@@ -359,12 +359,17 @@ def readings():
     ask_reads(3, 2, ks, ts, [(0, math.inf), (1, -math.inf)], [(0, 90.0, 0.5), (0, 95.0, 0.5), (0, 95.0, 0.75)])
 
 
-trays()
-fills()
-readings()
-asked.append(0)
-here = os.path.dirname(os.path.abspath(__file__))
-for name, words in (("stdin", asked), ("stdout", answered)):
-    with open(os.path.join(here, name), "w") as f:
-        f.writelines(f"{w:016X}\n" if name == "stdin" else f"{w:016x}\n" for w in words)
-print(len(asked), "words asked,", len(answered), "words answered")
+def main():
+    trays()
+    fills()
+    readings()
+    asked.append(0)
+    here = os.path.dirname(os.path.abspath(__file__))
+    for name, words in (("stdin", asked), ("stdout", answered)):
+        with open(os.path.join(here, name), "w") as f:
+            f.writelines(f"{w:016X}\n" if name == "stdin" else f"{w:016x}\n" for w in words)
+    print(len(asked), "words asked,", len(answered), "words answered")
+
+
+if __name__ == "__main__":
+    main()

@@ -10,7 +10,5 @@ pub mod Teeth
 pub mod Records
 pub mod Offering
 pub mod Solver
-pub mod Listening
 pub mod Building
-pub mod Trays
 pub mod Twelve

@@ -4,5 +4,4 @@ pub mod Book
 pub mod Build
 pub mod Claim
 pub mod Calls
-pub mod Tray
 pub mod Twelve

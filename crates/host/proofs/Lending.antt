@@ -25,10 +25,10 @@ use Rattle.book.specs.Model.{Opening, bsm, Offer}
 use Rattle.book.specs.Book.{zeroBook, openRefusal, isShort}
 use Rattle.book.specs.Build.{Buffers, buildOutcome}
 use Rattle.book.specs.Claim.{tallied, surfaceRefusal}
-use Rattle.book.specs.Tray.{Lent, shut, heard, replyOf, lastLedger, trayReply, QuotesTray}
+use Rattle.trays.specs.Tray.{Lent, shut, heard, replyOf, lastLedger, trayReply, QuotesTray}
 use Rattle.book.specs.declared.Book.{Book}
-use Rattle.book.specs.declared.Tray.{Tray}
-use Rattle.book.specs.declared.Tray.the-variants as Tray
+use Rattle.trays.specs.declared.Tray.{Tray}
+use Rattle.trays.specs.declared.Tray.the-variants as Tray
 use Rattle.host.specs.Answers.{numberOf}
 use Rattle.host.specs.Calls.{fillingIn, builtIn, lengthsOf, BuildsFor, isOpening, bookIn, trayIn, bookOf, totalsOf, builtOf, QuotesFor}
 use Rattle.host.proofs.Told.{Numbered, numbered-answer}

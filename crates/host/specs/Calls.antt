@@ -15,10 +15,10 @@ use Rattle.surface.specs.declared.Built.the-variants as Built
 use Rattle.surface.specs.Build.{Builds}
 use Rattle.book.specs.Model.{Opening, Offer}
 use Rattle.book.specs.Book.{zeroBook}
-use Rattle.book.specs.Tray.{Lent, QuotesTray}
+use Rattle.trays.specs.Tray.{Lent, QuotesTray}
 use Rattle.book.specs.declared.Book.{Book}
-use Rattle.book.specs.declared.Tray.{Tray}
-use Rattle.book.specs.declared.Tray.the-variants as Tray
+use Rattle.trays.specs.declared.Tray.{Tray}
+use Rattle.trays.specs.declared.Tray.the-variants as Tray
 
 -- ---- the gap filler
 -- The answer that a number stands for.

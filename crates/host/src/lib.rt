@@ -14,11 +14,10 @@ ghost use Rattle.grid.specs.Gaps.{fillOutcome, FillsGaps};
 ghost use Rattle.surface.specs.Build.{outcome};
 ghost use Rattle.book.specs.Book.{columns, endOf};
 ghost use Rattle.book.specs.Build.{buffers};
-ghost use Rattle.book.specs.Tray.{slices, lent, heardOffers};
+ghost use Rattle.trays.specs.Tray.{slices, lent, heardOffers};
 ghost use Rattle.host.specs.Answers.{told, over, numberOf, valuesOf, kindOf, optionOf, greeksEntries, solvedEntries, written, solvedWritten};
 ghost use Rattle.host.specs.Calls.{fillingIn, lengthsOf, BuildsFor, bookOf, builtOf, QuotesFor};
 use book::Book;
-use book::Tray;
 use greeks::Greeks;
 use greeks::Implied;
 use greeks::OptionParams;
@@ -28,6 +27,7 @@ use greeks::Sensitivities;
 use grid::Filling;
 use grid::Reading;
 use surface::Built;
+use trays::Tray;
 
 // ---- the functions of src/normal.rs and what it calls
 
@@ -453,7 +453,7 @@ pub extern "C" fn kite_quote_tray(
 ) -> u64
     ensures { λ r. ⌜ (let l = lent (now (numbers .entry)) (now (solved .entry)) (columns (now (strikes .entry)) (now (expiries .entry)) (now (volatilities .entry))) (buffers (now («strike_axis» .entry)) (now («expiry_axis» .entry)) (now (grid .entry)) (now (counts .entry))) in QuotesFor (record { spot = spot; rate = rate }) (heardOffers (slices (now (prices .entry)) (now (puts .entry)) (now (ks .entry)) (now (ts .entry)) (now (vs .entry))) l) l r (now (totals .exit)) (now (lengths .exit)) (lent (now (numbers .exit)) (now (solved .exit)) (columns (now (strikes .exit)) (now (expiries .exit)) (now (volatilities .exit))) (buffers (now («strike_axis» .exit)) (now («expiry_axis» .exit)) (now (grid .exit)) (now (counts .exit))))) ⌝ }
 {
-    let tray = book::quote_tray(
+    let tray = trays::quote_tray(
         spot,
         rate,
         prices,
