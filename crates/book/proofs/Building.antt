@@ -13,9 +13,9 @@ use Rattle.surface.specs.Cells.{Axes, axes}
 use Rattle.surface.specs.Build.{Lengths, lengths, noLengths, refusal, outcome, Builds}
 use Rattle.surface.specs.declared.Built.{Built}
 use Rattle.surface.specs.declared.Built.the-variants.{Surface, Refused}
-use Rattle.book.specs.Book.{Columns, columns, isShort, isBroken}
-use Rattle.book.specs.Build.{Buffers, buffers, quotesOf, buildRefusal, buildOutcome, buffersAfter, BuildsBook}
-use Rattle.book.specs.declared.Book.{Book}
+use Rattle.ledger.specs.Book.{Columns, columns, isShort, isBroken}
+use Rattle.ledger.specs.Build.{Buffers, buffers, quotesOf, buildRefusal, buildOutcome, buffersAfter, BuildsBook}
+use Rattle.ledger.specs.declared.Book.{Book}
 
 -- refused by 1 or by 2
 module _ (b : Book) (c : Columns) (s : Buffers) where

@@ -1,14 +1,4 @@
-pub mod Settled
-pub mod Quoted
-pub mod Agree
-pub mod Once
-pub mod Lists
-pub mod Builds
-pub mod Demand3
-pub mod TeethSurface
-pub mod Teeth
 pub mod Records
 pub mod Offering
 pub mod Solver
 pub mod Building
-pub mod Twelve

@@ -11,11 +11,11 @@ use Rattle.limits.specs.Checks.{none}
 use Rattle.limits.specs.Outcome.{Outcome, done, refused}
 use Rattle.brent.specs.Outcome.{Values, zeros}
 use Rattle.greeks.specs.Implied.{outcomeOfImplied}
-use Rattle.book.specs.Model.{Model, Offer, strikeOf, expiryOf}
-use Rattle.book.specs.Book.{Columns, columns, openingOf, isShort, isBroken, entryRefusal, ownRefusal, offerRefusal, answer, offerOutcome, keptBook, bookAfter, columnAfter, volatilityOf, columnsAfter}
-use Rattle.book.specs.Calls.{Replies, Offers, Turned}
-use Rattle.book.specs.declared.Book.{Book}
-use Rattle.book.specs.declared.Heard.{Heard}
+use Rattle.ledger.specs.Model.{Model, Offer, strikeOf, expiryOf}
+use Rattle.ledger.specs.Book.{Columns, columns, openingOf, isShort, isBroken, entryRefusal, ownRefusal, offerRefusal, answer, offerOutcome, keptBook, bookAfter, columnAfter, volatilityOf, columnsAfter}
+use Rattle.ledger.specs.Calls.{Replies, Offers, Turned}
+use Rattle.ledger.specs.declared.Book.{Book}
+use Rattle.ledger.specs.declared.Heard.{Heard}
 use Rattle.book.proofs.Records.{entry-then, Entered, past-three, entered}
 
 -- ---- the number

@@ -7,8 +7,8 @@ use borrow.Author.Tests.{ltb-false, eqb-true, leb-false, not-false}
 use Rattle.floats.specs.Operators.{if_then_else_}
 use Rattle.limits.specs.Ranges.{isSpot, isRate}
 use Rattle.limits.specs.Checks.{first, none}
-use Rattle.book.specs.Book.{isBroken, entryRefusal}
-use Rattle.book.specs.declared.Book.{Book}
+use Rattle.ledger.specs.Book.{isBroken, entryRefusal}
+use Rattle.ledger.specs.declared.Book.{Book}
 
 -- ---- a record in bounds
 pub record Bounds (b : Book) : Type 0 where

@@ -25,10 +25,10 @@ use Rattle.greeks.specs.declared.OptionParams.{OptionParams}
 use Rattle.greeks.specs.declared.Implied.{Implied}
 use Rattle.greeks.specs.declared.Implied.the-variants.{Found, Refused}
 use Rattle.greeks.proofs.Implied.{the-type}
-use Rattle.book.specs.Model.{bsm, priced}
-use Rattle.book.specs.Book.{openingOf, isBroken, ownRefusal, answer, endOf}
-use Rattle.book.specs.Calls.{Ended, Turned, Solves}
-use Rattle.book.specs.declared.Book.{Book}
+use Rattle.ledger.specs.Model.{bsm, priced}
+use Rattle.ledger.specs.Book.{openingOf, isBroken, ownRefusal, answer, endOf}
+use Rattle.ledger.specs.Calls.{Ended, Turned, Solves}
+use Rattle.ledger.specs.declared.Book.{Book}
 use Rattle.book.proofs.Records.{Bounds, bounds-of}
 
 -- ---- how a run ends

@@ -2,10 +2,10 @@
 ghost use mathlib.Core.Path.{_≡_};
 ghost use Prim.Native.Nat.{_+_, _<_, _≤_};
 ghost use Rattle.limits.specs.Checks.{none};
-ghost use Rattle.book.specs.Model.{bsm, volatility, priced};
-ghost use Rattle.book.specs.Book.{columns, fresh, openRefusal, opened, outcomeOfOpening, shorter, isBroken, entryRefusal, ownRefusal, answer, openingOf, keptBook, turnedBook};
-ghost use Rattle.book.specs.Build.{buffers, BuildsBook};
-ghost use Rattle.book.specs.Calls.{Replies, Offers, Turned, Solves};
+ghost use Rattle.ledger.specs.Model.{bsm, volatility, priced};
+ghost use Rattle.ledger.specs.Book.{columns, fresh, openRefusal, opened, outcomeOfOpening, shorter, isBroken, entryRefusal, ownRefusal, answer, openingOf, keptBook, turnedBook};
+ghost use Rattle.ledger.specs.Build.{buffers, BuildsBook};
+ghost use Rattle.ledger.specs.Calls.{Replies, Offers, Turned, Solves};
 ghost use Rattle.limits.specs.Outcome.{refused};
 ghost use Rattle.brent.specs.Outcome.{zeros};
 ghost use Rattle.greeks.specs.Implied.{outcomeOfImplied};
@@ -14,27 +14,10 @@ ghost use mathlib.Core.Bool.{false};
 use greeks::Implied;
 use greeks::OptionParams;
 use greeks::OptionType;
+use ledger::Book;
+use ledger::Heard;
+use ledger::Opened;
 use surface::Built;
-
-pub struct Book {
-    pub spot: f64,
-    pub rate: f64,
-    pub kept: u64,
-    pub refused: u64,
-    pub heard: u64,
-    pub evaluations: u64,
-}
-
-pub enum Opened {
-    Fresh { book: Book },
-    Refused { number: u64, book: Book },
-}
-
-// The record after an offer, and the answer to it.
-pub struct Heard {
-    pub book: Book,
-    pub answer: Implied,
-}
 
 // ---- the opening
 

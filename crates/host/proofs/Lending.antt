@@ -21,12 +21,12 @@ use Rattle.surface.specs.declared.Built.the-variants as Built
 use Rattle.surface.specs.Quotes.{Quote}
 use Rattle.surface.specs.Cells.{axes}
 use Rattle.surface.specs.Build.{Lengths, noLengths, lengths, surface, outcome, Builds, numberOf as buildNumber}
-use Rattle.book.specs.Model.{Opening, bsm, Offer}
-use Rattle.book.specs.Book.{zeroBook, openRefusal, isShort}
-use Rattle.book.specs.Build.{Buffers, buildOutcome}
-use Rattle.book.specs.Claim.{tallied, surfaceRefusal}
+use Rattle.ledger.specs.Model.{Opening, bsm, Offer}
+use Rattle.ledger.specs.Book.{zeroBook, openRefusal, isShort}
+use Rattle.ledger.specs.Build.{Buffers, buildOutcome}
+use Rattle.ledger.specs.Claim.{tallied, surfaceRefusal}
 use Rattle.trays.specs.Tray.{Lent, shut, heard, replyOf, lastLedger, trayReply, QuotesTray}
-use Rattle.book.specs.declared.Book.{Book}
+use Rattle.ledger.specs.declared.Book.{Book}
 use Rattle.trays.specs.declared.Tray.{Tray}
 use Rattle.trays.specs.declared.Tray.the-variants as Tray
 use Rattle.host.specs.Answers.{numberOf}

@@ -20,8 +20,8 @@ use Rattle.greeks.specs.Implied.{impliedRefusal, implied}
 use Rattle.greeks.specs.declared.OptionParams.{OptionParams}
 use Rattle.grid.specs.Answers.{answered}
 use Rattle.grid.specs.Readings.{reading}
-use Rattle.book.specs.Book.{endOf}
-use Rattle.book.specs.Calls.{Ended}
+use Rattle.ledger.specs.Book.{endOf}
+use Rattle.ledger.specs.Calls.{Ended}
 use Rattle.book.proofs.Solver.{run-ended}
 use Rattle.host.specs.Answers.{told, over, numberOf, valuesOf}
 

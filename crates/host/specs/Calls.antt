@@ -13,10 +13,10 @@ use Rattle.grid.specs.declared.Filling.the-variants as Filling
 use Rattle.surface.specs.declared.Built.{Built}
 use Rattle.surface.specs.declared.Built.the-variants as Built
 use Rattle.surface.specs.Build.{Builds}
-use Rattle.book.specs.Model.{Opening, Offer}
-use Rattle.book.specs.Book.{zeroBook}
+use Rattle.ledger.specs.Model.{Opening, Offer}
+use Rattle.ledger.specs.Book.{zeroBook}
 use Rattle.trays.specs.Tray.{Lent, QuotesTray}
-use Rattle.book.specs.declared.Book.{Book}
+use Rattle.ledger.specs.declared.Book.{Book}
 use Rattle.trays.specs.declared.Tray.{Tray}
 use Rattle.trays.specs.declared.Tray.the-variants as Tray
 

@@ -6,10 +6,10 @@ use lib.Ieee.{Float}
 use Rattle.limits.specs.Checks.{none}
 use Rattle.limits.specs.Outcome.{Outcome, done, refused}
 use Rattle.greeks.specs.declared.OptionType.the-variants as OptionType
-use Rattle.book.specs.Model.{Opening, bsm, Offer, volatility, priced}
-use Rattle.book.specs.Book.{Columns, zeroBook, fresh, openRefusal, opened, offerOutcome}
-use Rattle.book.specs.Build.{buildOutcome, buffersAfter}
-use Rattle.book.specs.Claim.{Ledger, hear, hearAll}
+use Rattle.ledger.specs.Model.{Opening, bsm, Offer, volatility, priced}
+use Rattle.ledger.specs.Book.{Columns, zeroBook, fresh, openRefusal, opened, offerOutcome}
+use Rattle.ledger.specs.Build.{buildOutcome, buffersAfter}
+use Rattle.ledger.specs.Claim.{Ledger, hear, hearAll}
 use Rattle.frames.specs.Session.{bookAfter}
 use Rattle.frames.specs.declared.Frame.the-variants.{Open, Read}
 use Rattle.frames.proofs.Claims.{streamed}

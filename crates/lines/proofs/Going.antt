@@ -7,8 +7,8 @@ use native.Mathlib.Omega.{arith}
 use borrow.Author.Tests.{eq-eqb, ne-eqb}
 use lib.ListN.{length, take, drop, getD}
 use lib.Seq.{paste, drop-cons, drop-length, length-take-le}
-use Rattle.book.specs.Book.{Columns}
-use Rattle.book.specs.Claim.{Ledger}
+use Rattle.ledger.specs.Book.{Columns}
+use Rattle.ledger.specs.Claim.{Ledger}
 use Rattle.frames.specs.Hex.{answerLine}
 use Rattle.frames.specs.Frames.{frameOf}
 use Rattle.frames.specs.Lines.{held, noLine, pushed, cap}

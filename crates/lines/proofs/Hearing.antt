@@ -11,12 +11,12 @@ use Rattle.grid.specs.declared.Reading.{Reading}
 use Rattle.surface.specs.Build.{outcome}
 use Rattle.surface.specs.declared.Built.{Built}
 use Rattle.surface.specs.declared.Built.the-variants as Built
-use Rattle.book.specs.Model.{bsm, Offer}
-use Rattle.book.specs.Book.{Columns, offerOutcome}
-use Rattle.book.specs.Calls.{Offers}
-use Rattle.book.specs.Build.{Buffers, buildOutcome, buffersAfter, BuildsBook}
-use Rattle.book.specs.Claim.{Ledger, hear}
-use Rattle.book.specs.declared.Heard.{Heard}
+use Rattle.ledger.specs.Model.{bsm, Offer}
+use Rattle.ledger.specs.Book.{Columns, offerOutcome}
+use Rattle.ledger.specs.Calls.{Offers}
+use Rattle.ledger.specs.Build.{Buffers, buildOutcome, buffersAfter, BuildsBook}
+use Rattle.ledger.specs.Claim.{Ledger, hear}
+use Rattle.ledger.specs.declared.Heard.{Heard}
 use Rattle.lines.specs.Hear.{ledger, said, offers, blank, readOf, reads}
 use Rattle.lines.specs.Moves.{heardOf}
 use Rattle.lines.specs.declared.Said.{Said}

@@ -7,9 +7,9 @@ use native.Mathlib.Omega.{arith}
 use borrow.Author.Tests.{le-ltb}
 use lib.Dec.{ltb}
 use lib.ListN.{length, drop, take-append-drop}
-use Rattle.book.specs.Book.{Columns}
-use Rattle.book.specs.Claim.{Ledger}
-use Rattle.book.specs.declared.Book.{Book}
+use Rattle.ledger.specs.Book.{Columns}
+use Rattle.ledger.specs.Claim.{Ledger}
+use Rattle.ledger.specs.declared.Book.{Book}
 use Rattle.frames.specs.Lines.{unended, lines, held, noLine}
 use Rattle.frames.specs.Session.{Session, output, bookLeft, feed, finish}
 use Rattle.frames.specs.Moves.{Place, sessionOf, Moved, Answered}

@@ -9,7 +9,7 @@ use lib.Dec.{eqb, ltb}
 use lib.ListN.{length, take, drop, getD, length-take}
 use lib.Seq.{drop-cons}
 use Rattle.floats.proofs.Tests.{by}
-use Rattle.book.specs.Claim.{Ledger}
+use Rattle.ledger.specs.Claim.{Ledger}
 use Rattle.frames.specs.Lines.{cap, unended, held}
 use Rattle.frames.specs.Session.{Session, step, feed, finish, ended}
 use Rattle.frames.specs.Moves.{Place, sessionOf}

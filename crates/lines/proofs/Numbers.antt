@@ -17,11 +17,11 @@ use Rattle.greeks.specs.declared.OptionType.the-variants as OptionType
 use Rattle.grid.specs.Answers.{answered}
 use Rattle.grid.specs.Readings.{readRefusal, reading}
 use Rattle.surface.specs.Build.{Lengths, refusal}
-use Rattle.book.specs.Model.{Opening, Model, bsm, Offer, volatility, priced}
-use Rattle.book.specs.Book.{Columns, openRefusal, opened, ownRefusal, entryRefusal, offerRefusal, endOf, answer, offerOutcome}
-use Rattle.book.specs.Build.{Buffers, buildRefusal, buildOutcome, buffersAfter}
-use Rattle.book.specs.Claim.{Ledger, hear}
-use Rattle.book.specs.declared.Book.{Book}
+use Rattle.ledger.specs.Model.{Opening, Model, bsm, Offer, volatility, priced}
+use Rattle.ledger.specs.Book.{Columns, openRefusal, opened, ownRefusal, entryRefusal, offerRefusal, endOf, answer, offerOutcome}
+use Rattle.ledger.specs.Build.{Buffers, buildRefusal, buildOutcome, buffersAfter}
+use Rattle.ledger.specs.Claim.{Ledger, hear}
+use Rattle.ledger.specs.declared.Book.{Book}
 use Rattle.frames.specs.declared.Frame.{Frame}
 use Rattle.frames.specs.declared.Frame.the-variants.{Open, Call, Put, Vol, Read, Bad}
 use Rattle.lines.specs.Hear.{ledger, said, bookOf, opens, offers, blank, readOf, reads, hears}

@@ -8,8 +8,8 @@ use lib.Dec.{eqb, ltb}
 use lib.ListN.{length, take, drop, set, length-append, length-drop, length-set}
 use lib.Seq.{take-at}
 use Rattle.floats.proofs.Tests.{by}
-use Rattle.book.specs.Book.{Columns, zeroBook}
-use Rattle.book.specs.Claim.{Ledger}
+use Rattle.ledger.specs.Book.{Columns, zeroBook}
+use Rattle.ledger.specs.Claim.{Ledger}
 use Rattle.frames.specs.Lines.{cap, unended, lines, held, noLine, pushed}
 use Rattle.frames.specs.Session.{Session, step, feed, finish, ended, run, output, bookLeft, joined}
 use Rattle.frames.specs.declared.Line.{Line}

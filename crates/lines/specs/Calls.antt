@@ -6,9 +6,9 @@ use mathlib.Core.List.{List, [], _∷_, _++_}
 use lib.Dec.{eqb, ltb}
 use lib.ListN.{length, drop}
 use Rattle.floats.specs.Operators.{if_then_else_}
-use Rattle.book.specs.Book.{Columns, zeroBook}
-use Rattle.book.specs.Claim.{Ledger}
-use Rattle.book.specs.declared.Book.{Book}
+use Rattle.ledger.specs.Book.{Columns, zeroBook}
+use Rattle.ledger.specs.Claim.{Ledger}
+use Rattle.ledger.specs.declared.Book.{Book}
 use Rattle.frames.specs.Hex.{answerLine}
 use Rattle.frames.specs.Frames.{frameOf}
 use Rattle.frames.specs.Lines.{unended, lines, held, noLine, pushed}

@@ -5,9 +5,9 @@ use mathlib.Core.List.{List, [], _∷_, _++_, map}
 use lib.Ieee.{Float}
 use lib.ListN.{length, take}
 use Rattle.greeks.specs.declared.OptionType.the-variants as OptionType
-use Rattle.book.specs.Model.{Opening, bsm, Offer, volatility, priced}
-use Rattle.book.specs.Book.{Columns, zeroBook, fresh, openRefusal}
-use Rattle.book.specs.Claim.{Ledger, hearAll}
+use Rattle.ledger.specs.Model.{Opening, bsm, Offer, volatility, priced}
+use Rattle.ledger.specs.Book.{Columns, zeroBook, fresh, openRefusal}
+use Rattle.ledger.specs.Claim.{Ledger, hearAll}
 use Rattle.limits.specs.Checks.{none}
 use Rattle.frames.specs.Lines.{lines}
 use Rattle.frames.specs.Session.{bookAfter, output, joined}

@@ -9,11 +9,11 @@ use Rattle.brent.specs.Outcome.{Values}
 use Rattle.greeks.specs.declared.OptionType.the-variants as OptionType
 use Rattle.grid.specs.Readings.{reading}
 use Rattle.surface.specs.Build.{Lengths}
-use Rattle.book.specs.Model.{Opening, bsm, Offer, volatility, priced}
-use Rattle.book.specs.Book.{Columns, zeroBook, opened, offerOutcome}
-use Rattle.book.specs.Build.{Buffers, buffers, buildOutcome, buffersAfter}
-use Rattle.book.specs.Claim.{Ledger, hear}
-use Rattle.book.specs.declared.Book.{Book}
+use Rattle.ledger.specs.Model.{Opening, bsm, Offer, volatility, priced}
+use Rattle.ledger.specs.Book.{Columns, zeroBook, opened, offerOutcome}
+use Rattle.ledger.specs.Build.{Buffers, buffers, buildOutcome, buffersAfter}
+use Rattle.ledger.specs.Claim.{Ledger, hear}
+use Rattle.ledger.specs.declared.Book.{Book}
 use Rattle.frames.specs.Session.{Heard}
 use Rattle.frames.specs.declared.Frame.{Frame}
 use Rattle.frames.specs.declared.Frame.the-variants.{Open, Call, Put, Vol, Read, Bad}

@@ -6,8 +6,8 @@ use mathlib.Core.List.{List}
 use lib.Dec.{eqb}
 use lib.ListN.{length}
 use Rattle.floats.specs.Operators.{if_then_else_}
-use Rattle.book.specs.Book.{Columns}
-use Rattle.book.specs.Claim.{Ledger}
+use Rattle.ledger.specs.Book.{Columns}
+use Rattle.ledger.specs.Claim.{Ledger}
 use Rattle.frames.specs.Lines.{lines}
 use Rattle.frames.specs.Session.{Heard, Session}
 use Rattle.frames.specs.Moves.{Place, Moved}

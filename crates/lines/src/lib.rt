@@ -7,21 +7,21 @@ ghost use lib.Seq.{paste};
 ghost use Rattle.greeks.specs.Implied.{outcomeOfImplied};
 ghost use Rattle.brent.specs.Outcome.{Values};
 ghost use Rattle.grid.specs.Readings.{readOutcome};
-ghost use Rattle.book.specs.Book.{Columns, columns};
-ghost use Rattle.book.specs.Claim.{Ledger};
+ghost use Rattle.ledger.specs.Book.{Columns, columns};
+ghost use Rattle.ledger.specs.Claim.{Ledger};
 ghost use Rattle.frames.specs.Lines.{unended, held, noLine};
 ghost use Rattle.frames.specs.Session.{ended, step, feed, finish};
 ghost use Rattle.frames.specs.Moves.{sessionOf};
 ghost use Rattle.lines.specs.Hear.{ledger, said, opens, reads, hears};
 ghost use Rattle.lines.specs.Calls.{AnswersLine, fresh, lineStep, lineAfter, state, left, fed, finished, allAnswered};
 ghost use Rattle.lines.specs.Moves.{heardOf, place, Room, Goes, counted, Counts};
-use book::Book;
-use book::Heard;
-use book::Opened;
 use frames::Frame;
 use frames::Line;
 use greeks::Implied;
 use grid::Reading;
+use ledger::Book;
+use ledger::Heard;
+use ledger::Opened;
 use surface::Built;
 
 // What a frame leads to: the record, the number of its answer (0 for done) and its value.

@@ -12,13 +12,13 @@ use Rattle.limits.specs.Outcome.{Outcome, done, refused}
 use Rattle.brent.specs.Outcome.{Values}
 use Rattle.greeks.specs.Implied.{outcomeOfImplied}
 use Rattle.grid.specs.Layout.{values}
-use Rattle.book.specs.Model.{bsm, Offer}
-use Rattle.book.specs.Book.{Columns, columns, offerOutcome, bookAfter, columnAfter, columnsAfter, volatilityOf}
-use Rattle.book.specs.Claim.{Ledger, hear, hearAll, replies, numberOf}
-use Rattle.book.specs.Calls.{Offers}
+use Rattle.ledger.specs.Model.{bsm, Offer}
+use Rattle.ledger.specs.Book.{Columns, columns, offerOutcome, bookAfter, columnAfter, columnsAfter, volatilityOf}
+use Rattle.ledger.specs.Claim.{Ledger, hear, hearAll, replies, numberOf}
+use Rattle.ledger.specs.Calls.{Offers}
 use Rattle.trays.specs.Tray.{offerOf, Slices, offerAt, offers, written, WritesAnswer}
-use Rattle.book.specs.declared.Book.{Book}
-use Rattle.book.specs.declared.Heard.{Heard}
+use Rattle.ledger.specs.declared.Book.{Book}
+use Rattle.ledger.specs.declared.Heard.{Heard}
 
 -- ---- an entry in a list does not depend on what would stand past the end
 pub getD-any : {X : Type 0} (xs : List X) (i : ℕ) (d e : X) → i < length xs → getD xs i d ≡ getD xs i e

@@ -11,15 +11,15 @@ use Rattle.limits.specs.Outcome.{Outcome, done, refused}
 use Rattle.surface.specs.declared.Built.{Built}
 use Rattle.surface.specs.Build.{outcome}
 use Rattle.surface.proofs.Choice.{split}
-use Rattle.book.specs.Model.{Opening, bsm, Offer}
-use Rattle.book.specs.Book.{Columns, fresh, zeroBook, openRefusal, opened}
-use Rattle.book.specs.Build.{Buffers, buildOutcome, buffersAfter, BuildsBook}
-use Rattle.book.specs.Claim.{Ledger}
+use Rattle.ledger.specs.Model.{Opening, bsm, Offer}
+use Rattle.ledger.specs.Book.{Columns, fresh, zeroBook, openRefusal, opened}
+use Rattle.ledger.specs.Build.{Buffers, buildOutcome, buffersAfter, BuildsBook}
+use Rattle.ledger.specs.Claim.{Ledger}
 use Rattle.trays.specs.Tray.{Slices, offers, Lent, lent, TrayReply, shut, heard, replyOf, firstLedger, trayReply, lentAfter, HearsAll, QuotesTray}
-use Rattle.book.specs.declared.Book.{Book}
+use Rattle.ledger.specs.declared.Book.{Book}
 use Rattle.trays.specs.declared.Tray.{Tray}
 use Rattle.trays.specs.declared.Tray.the-variants as Tray
-use Rattle.book.proofs.Demand3.{claim}
+use Rattle.ledger.proofs.Demand3.{claim}
 
 -- ---- what an opening's answer tells
 abbrev isDone : Outcome Book → Bool

@@ -13,12 +13,12 @@ use Rattle.brent.specs.Outcome.{Values}
 use Rattle.greeks.specs.declared.OptionType.{OptionType}
 use Rattle.greeks.specs.declared.OptionType.the-variants.{Call, Put}
 use Rattle.grid.specs.Layout.{values}
-use Rattle.book.specs.Model.{Opening, Model, bsm, Offer, volatility, priced}
-use Rattle.book.specs.Book.{Columns, fresh, zeroBook, openRefusal, volatilityOf}
+use Rattle.ledger.specs.Model.{Opening, Model, bsm, Offer, volatility, priced}
+use Rattle.ledger.specs.Book.{Columns, fresh, zeroBook, openRefusal, volatilityOf}
 use Rattle.surface.specs.Build.{Lengths, outcome}
-use Rattle.book.specs.Build.{Buffers, buildOutcome, buffersAfter}
-use Rattle.book.specs.Claim.{Ledger, hearAll, replies, numberOf, Demand3}
-use Rattle.book.specs.declared.Book.{Book}
+use Rattle.ledger.specs.Build.{Buffers, buildOutcome, buffersAfter}
+use Rattle.ledger.specs.Claim.{Ledger, hearAll, replies, numberOf, Demand3}
+use Rattle.ledger.specs.declared.Book.{Book}
 use Rattle.trays.specs.declared.Tray.{Tray}
 use Rattle.trays.specs.declared.Tray.the-variants as Tray
 

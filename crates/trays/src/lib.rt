@@ -3,16 +3,16 @@ ghost use mathlib.Core.Path.{_≡_};
 ghost use Prim.Native.Nat.{_<_, _≤_, min};
 ghost use lib.ListN.{length};
 ghost use Rattle.greeks.specs.Implied.{outcomeOfImplied};
-ghost use Rattle.book.specs.Model.{bsm};
-ghost use Rattle.book.specs.Book.{columns, volatilityOf};
-ghost use Rattle.book.specs.Build.{buffers};
-ghost use Rattle.book.specs.Calls.{Offers};
-ghost use Rattle.book.specs.Claim.{numberOf};
+ghost use Rattle.ledger.specs.Model.{bsm};
+ghost use Rattle.ledger.specs.Book.{columns, volatilityOf};
+ghost use Rattle.ledger.specs.Build.{buffers};
+ghost use Rattle.ledger.specs.Calls.{Offers};
+ghost use Rattle.ledger.specs.Claim.{numberOf};
 ghost use Rattle.trays.specs.Tray.{offerOf, slices, offers, WritesAnswer, HearsAll, shortest, lent, heardOffers, QuotesTray};
-use book::Book;
-use book::Heard;
-use book::Opened;
 use greeks::Implied;
+use ledger::Book;
+use ledger::Heard;
+use ledger::Opened;
 use surface::Built;
 
 // What a tray is answered: its opening was refused, or its record and the build's answer.

@@ -1,7 +1,7 @@
 -- `book::build`: 1, the record's part of 2, and then the surface's own build. Assumes nothing.
 use mathlib.Core.Path.{sym, _∙_}
-use Rattle.book.specs.Book.{columns, isShort}
-use Rattle.book.specs.Build.{buffers}
+use Rattle.ledger.specs.Book.{columns, isShort}
+use Rattle.ledger.specs.Build.{buffers}
 use Rattle.book.proofs.Building.{by-1, by-2, by-surface}
 use borrow.Author.Needs.{needs}
 use Rattle.book.proofs.build.Statement.{statement}

@@ -1,7 +1,7 @@
 -- `book::entry_number`: a line for each check, in document 01's order. Assumes nothing.
 use borrow.Author.Tests.{le-leb, lt-leb}
 use Rattle.limits.specs.Checks.{first}
-use Rattle.book.specs.Book.{entryRefusal}
+use Rattle.ledger.specs.Book.{entryRefusal}
 use borrow.Author.Needs.{needs}
 use Rattle.book.proofs.entry_number.Statement.{statement}
 use Rattle.book.proofs.entry_number.Tie as tie

@@ -6,8 +6,8 @@ use borrow.Author.Tests.{lt-leb}
 use Rattle.brent.specs.Outcome.{zeros}
 use Rattle.greeks.specs.Implied.{outcomeOfImplied}
 use Rattle.greeks.specs.declared.Implied.{Implied}
-use Rattle.book.specs.Book.{bookAfter}
-use Rattle.book.specs.Calls.{Turned}
+use Rattle.ledger.specs.Book.{bookAfter}
+use Rattle.ledger.specs.Calls.{Turned}
 use Rattle.book.proofs.Records.{bounds-of}
 use Rattle.book.proofs.Solver.{not-refused}
 use borrow.Author.Needs.{needs}

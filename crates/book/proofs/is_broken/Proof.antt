@@ -4,7 +4,7 @@ use mathlib.Core.Path.{_≡_}
 use mathlib.Core.Bool.{or-true}
 use native.Mathlib.Omega.{arith}
 use borrow.Author.Tests.{lt-ltb, le-ltb, eq-eqb, ne-eqb}
-use Rattle.book.specs.Book.{isBroken}
+use Rattle.ledger.specs.Book.{isBroken}
 use borrow.Author.Needs.{needs}
 use Rattle.book.proofs.is_broken.Statement.{statement}
 use Rattle.book.proofs.is_broken.Tie as tie

@@ -2,7 +2,7 @@
 use mathlib.Core.Path.{_≡_, sym, _∙_}
 use borrow.Author.Tests.{eq-eqb, ne-eqb}
 use Rattle.limits.specs.Checks.{none}
-use Rattle.book.specs.Book.{entryRefusal}
+use Rattle.ledger.specs.Book.{entryRefusal}
 use Rattle.book.proofs.Records.{entry-then}
 use borrow.Author.Needs.{needs}
 use Rattle.book.proofs.offer_number.Statement.{statement}

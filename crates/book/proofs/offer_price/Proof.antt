@@ -4,9 +4,9 @@ use mathlib.Core.Path.{sym, ap, _∙_, subst}
 use native.Mathlib.Omega.{arith}
 use Rattle.greeks.specs.Implied.{outcomeOfImplied}
 use Rattle.greeks.specs.declared.Implied.{Implied}
-use Rattle.book.specs.Model.{bsm, priced}
-use Rattle.book.specs.Book.{columns, isShort}
-use Rattle.book.specs.Calls.{Ended}
+use Rattle.ledger.specs.Model.{bsm, priced}
+use Rattle.ledger.specs.Book.{columns, isShort}
+use Rattle.ledger.specs.Calls.{Ended}
 use Rattle.book.proofs.Records.{bounds-of}
 use Rattle.book.proofs.Offering.{number-is, counted, all-pass, long, refused-offer, kept-offer, turned-offer}
 use Rattle.book.proofs.Solver.{not-found}

@@ -5,8 +5,8 @@ use native.Mathlib.Omega.{arith}
 use lib.Ieee.{ofBits, round}
 use Rattle.greeks.specs.Implied.{outcomeOfImplied}
 use Rattle.greeks.specs.declared.Implied.the-variants.{Found}
-use Rattle.book.specs.Model.{bsm, volatility}
-use Rattle.book.specs.Book.{columns, isShort, answer}
+use Rattle.ledger.specs.Model.{bsm, volatility}
+use Rattle.ledger.specs.Book.{columns, isShort, answer}
 use Rattle.book.proofs.Records.{bounds-of}
 use Rattle.book.proofs.Offering.{number-is, counted, all-pass, long, refused-offer, kept-offer}
 use borrow.Author.Needs.{needs}

@@ -2,7 +2,7 @@
 use mathlib.Core.Path.{_≡_, sym, _∙_}
 use borrow.Author.Tests.{eq-eqb, ne-eqb}
 use lib.Ieee.{ofBits, round}
-use Rattle.book.specs.Book.{openRefusal, opened, outcomeOfOpening}
+use Rattle.ledger.specs.Book.{openRefusal, opened, outcomeOfOpening}
 use borrow.Author.Needs.{needs}
 use Rattle.book.proofs.open.Statement.{statement}
 use Rattle.book.proofs.open.Tie as tie

@@ -1,6 +1,6 @@
 -- `book::open_number`: a line for each check, in document 01's order. Assumes nothing.
 use Rattle.limits.specs.Checks.{first}
-use Rattle.book.specs.Book.{openRefusal}
+use Rattle.ledger.specs.Book.{openRefusal}
 use borrow.Author.Needs.{needs}
 use Rattle.book.proofs.open_number.Statement.{statement}
 use Rattle.book.proofs.open_number.Tie as tie

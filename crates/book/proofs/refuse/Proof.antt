@@ -4,7 +4,7 @@ use native.Mathlib.Omega.{arith}
 use borrow.Author.Tests.{le-leb, lt-leb}
 use Rattle.brent.specs.Outcome.{zeros}
 use Rattle.greeks.specs.Implied.{outcomeOfImplied}
-use Rattle.book.specs.Book.{bookAfter}
+use Rattle.ledger.specs.Book.{bookAfter}
 use Rattle.book.proofs.Records.{bounds-of}
 use Rattle.book.proofs.refuse.Statement.{statement}
 use Rattle.book.proofs.refuse.Tie as tie

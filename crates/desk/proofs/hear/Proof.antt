@@ -3,7 +3,7 @@ use Prim.Native.Nat.{_≤_}
 use mathlib.Core.Path.{sym, subst}
 use lib.ListN.{length}
 use borrow.Author.Needs.{needs}
-use Rattle.book.specs.Book.{columns}
+use Rattle.ledger.specs.Book.{columns}
 use Rattle.lines.specs.Calls.{Left}
 use Rattle.lines.specs.Claims.{countOf}
 use Rattle.lines.proofs.Programs.{fed-within, finished-within}

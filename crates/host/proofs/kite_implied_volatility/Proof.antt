@@ -2,7 +2,7 @@
 use mathlib.Core.Path.{ap}
 use lib.Ieee.{ofBits, round}
 use Rattle.greeks.specs.Implied.{outcomeOfImplied}
-use Rattle.book.specs.Book.{endOf}
+use Rattle.ledger.specs.Book.{endOf}
 use Rattle.host.specs.Answers.{written, solvedWritten}
 use Rattle.host.proofs.Told.{numbered-implied, told-over}
 use borrow.Author.Needs.{needs}

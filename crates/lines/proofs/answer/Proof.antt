@@ -1,6 +1,6 @@
 -- `lines::answer`: the frame of the bytes is heard, and its answer written. Assumes nothing.
 use borrow.Author.Needs.{needs}
-use Rattle.book.specs.Book.{columns}
+use Rattle.ledger.specs.Book.{columns}
 use Rattle.lines.specs.Hear.{ledger}
 use Rattle.lines.proofs.Going.{line-answered}
 use Rattle.lines.proofs.answer.Statement.{statement}

@@ -2,7 +2,7 @@
 use mathlib.Core.List.{[]}
 use native.Mathlib.Omega.{arith}
 use borrow.Author.Needs.{needs}
-use Rattle.book.specs.Book.{columns}
+use Rattle.ledger.specs.Book.{columns}
 use Rattle.frames.proofs.Sizes.{lines-room}
 use Rattle.lines.specs.Hear.{ledger}
 use Rattle.lines.proofs.Leaving.{all-short, all-chunk-room, all-end-room, all-done}

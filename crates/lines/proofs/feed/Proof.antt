@@ -1,6 +1,6 @@
 -- `lines::feed`: room for the answers, and then each byte of the chunk. Assumes nothing.
 use borrow.Author.Needs.{needs}
-use Rattle.book.specs.Book.{columns}
+use Rattle.ledger.specs.Book.{columns}
 use Rattle.lines.proofs.Leaving.{chunk-short, chunk-room, chunk-fed}
 use Rattle.lines.proofs.feed.Statement.{statement}
 use Rattle.lines.proofs.feed.Tie as tie

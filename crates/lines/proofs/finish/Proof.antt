@@ -1,6 +1,6 @@
 -- `lines::finish`: room for a last line, and then it is answered. Assumes nothing.
 use borrow.Author.Needs.{needs}
-use Rattle.book.specs.Book.{columns}
+use Rattle.ledger.specs.Book.{columns}
 use Rattle.lines.proofs.Leaving.{end-short, end-room, end-finished}
 use Rattle.lines.proofs.finish.Statement.{statement}
 use Rattle.lines.proofs.finish.Tie as tie

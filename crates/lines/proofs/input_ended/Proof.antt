@@ -2,7 +2,7 @@
 use mathlib.Core.Path.{_≡_}
 use lib.ListN.{length}
 use borrow.Author.Needs.{needs}
-use Rattle.book.specs.Book.{columns}
+use Rattle.ledger.specs.Book.{columns}
 use Rattle.lines.specs.Moves.{place}
 use Rattle.lines.proofs.Going.{goes-last, goes-none, room-for-last}
 use Rattle.lines.proofs.input_ended.Statement.{statement}

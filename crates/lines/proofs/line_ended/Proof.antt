@@ -1,6 +1,6 @@
 -- `lines::line_ended`: the frame of the line is heard, and its answer put behind the text. Assumes nothing.
 use borrow.Author.Needs.{needs}
-use Rattle.book.specs.Book.{columns}
+use Rattle.ledger.specs.Book.{columns}
 use Rattle.lines.specs.Moves.{place}
 use Rattle.lines.proofs.Going.{goes-ended}
 use Rattle.lines.proofs.line_ended.Statement.{statement}

@@ -3,7 +3,7 @@ use mathlib.Core.Path.{_≡_, sym, ap, _∙_}
 use lib.Ieee.{ofBits, round}
 use borrow.Author.Needs.{needs}
 use Rattle.limits.specs.Outcome.{Outcome, done, refused}
-use Rattle.book.specs.Book.{outcomeOfOpening}
+use Rattle.ledger.specs.Book.{outcomeOfOpening}
 use Rattle.lines.specs.Hear.{said, opens, bookOf}
 use Rattle.lines.proofs.open_book.Statement.{statement}
 use Rattle.lines.proofs.open_book.Tie as tie

@@ -2,7 +2,7 @@
 use mathlib.Core.Path.{_≡_, sym, ap, _∙_}
 use lib.Ieee.{ofBits, round}
 use borrow.Author.Needs.{needs}
-use Rattle.book.specs.Book.{columns}
+use Rattle.ledger.specs.Book.{columns}
 use Rattle.lines.specs.Hear.{ledger}
 use Rattle.lines.proofs.Hearing.{built-and-read, not-built}
 use Rattle.lines.proofs.read_surface.Statement.{statement}

@@ -2,7 +2,7 @@
 use mathlib.Core.Path.{_≡_}
 use lib.ListN.{length}
 use borrow.Author.Needs.{needs}
-use Rattle.book.specs.Book.{columns}
+use Rattle.ledger.specs.Book.{columns}
 use Rattle.lines.specs.Moves.{place}
 use Rattle.lines.proofs.Going.{goes-feed, goes-pushed, room-ended}
 use Rattle.lines.proofs.take_byte.Statement.{statement}

@@ -3,7 +3,7 @@ use Prim.Native.Nat.{_-_}
 use native.Mathlib.Omega.{arith}
 use lib.ListN.{length}
 use borrow.Author.Needs.{needs}
-use Rattle.book.specs.Book.{columns}
+use Rattle.ledger.specs.Book.{columns}
 use Rattle.lines.specs.Moves.{place}
 use Rattle.lines.proofs.Going.{Chunking, chunking-start, chunking-step, chunking-end, chunking-room}
 use Rattle.lines.proofs.take_chunk.Statement.{statement}

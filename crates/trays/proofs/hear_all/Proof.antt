@@ -5,9 +5,9 @@ use mathlib.Core.List.{map}
 use native.Mathlib.Omega.{arith}
 use borrow.Author.Needs.{needs}
 use lib.ListN.{length, length-set}
-use Rattle.book.specs.Model.{bsm}
-use Rattle.book.specs.Book.{columns, volatilityOf}
-use Rattle.book.specs.Claim.{Ledger, hearAll, replies, numberOf}
+use Rattle.ledger.specs.Model.{bsm}
+use Rattle.ledger.specs.Book.{columns, volatilityOf}
+use Rattle.ledger.specs.Claim.{Ledger, hearAll, replies, numberOf}
 use Rattle.trays.specs.Tray.{slices, offers, written}
 use Rattle.trays.proofs.Listening.{Going, begins, read-offer, offer-lengths, turn, finished}
 use Rattle.trays.proofs.hear_all.Statement.{statement}

@@ -2,7 +2,7 @@
 use mathlib.Core.Path.{sym, ap}
 use Rattle.greeks.specs.Implied.{outcomeOfImplied}
 use Rattle.greeks.specs.declared.Implied.{Implied}
-use Rattle.book.specs.Claim.{numberOf}
+use Rattle.ledger.specs.Claim.{numberOf}
 use borrow.Author.Needs.{needs}
 use Rattle.trays.proofs.number_of.Statement.{statement}
 use Rattle.trays.proofs.number_of.Tie as tie

@@ -1,7 +1,7 @@
 -- `trays::quote_tray`: the opening, the list by `hear_all`, and the build; demand 3's claim says what they are. Assumes nothing.
 use mathlib.Core.Path.{sym, ap, _∙_}
-use Rattle.book.specs.Book.{columns, outcomeOfOpening}
-use Rattle.book.specs.Build.{buffers}
+use Rattle.ledger.specs.Book.{columns, outcomeOfOpening}
+use Rattle.ledger.specs.Build.{buffers}
 use Rattle.trays.specs.Tray.{slices, lent, heardOffers}
 use Rattle.trays.proofs.Trays.{shut-tray, quoted-tray}
 use borrow.Author.Needs.{needs}

@@ -4,7 +4,7 @@ use lib.Ieee.{ofBits, round}
 use Rattle.brent.specs.Outcome.{zeros}
 use Rattle.greeks.specs.Implied.{outcomeOfImplied}
 use Rattle.greeks.specs.declared.Implied.{Implied}
-use Rattle.book.specs.Book.{volatilityOf}
+use Rattle.ledger.specs.Book.{volatilityOf}
 use borrow.Author.Needs.{needs}
 use Rattle.trays.proofs.volatility_of.Statement.{statement}
 use Rattle.trays.proofs.volatility_of.Tie as tie

@@ -23,12 +23,12 @@ use Rattle.surface.specs.Build.{front, table, lengths, noLengths, refusal}
 use Rattle.surface.proofs.Housing.{meaning}
 use Rattle.surface.proofs.Layouts.{table-length, table-at, table-else}
 use Rattle.surface.proofs.Neighbour.{Left, Right, left-is, right-is}
-use Rattle.book.specs.Model.{Opening}
-use Rattle.book.specs.Tally.{Tally}
-use Rattle.book.specs.Book.{Columns, openRefusal, isShort}
-use Rattle.book.specs.Build.{Buffers, quotesOf, buildRefusal, buildOutcome, buffersAfter}
-use Rattle.book.specs.Claim.{Ledger, Neighbour, left, right, surfaceRefusal, rows, columns, SurfaceClaim, BuildClaim}
-use Rattle.book.proofs.Agree.{Agree, or-left-false, same-short, unbroken}
+use Rattle.ledger.specs.Model.{Opening}
+use Rattle.ledger.specs.Tally.{Tally}
+use Rattle.ledger.specs.Book.{Columns, openRefusal, isShort}
+use Rattle.ledger.specs.Build.{Buffers, quotesOf, buildRefusal, buildOutcome, buffersAfter}
+use Rattle.ledger.specs.Claim.{Ledger, Neighbour, left, right, surfaceRefusal, rows, columns, SurfaceClaim, BuildClaim}
+use Rattle.ledger.proofs.Agree.{Agree, or-left-false, same-short, unbroken}
 
 -- ---- where a cell's mean comes from
 own-source : (c : ℕ → ℕ) (w j : ℕ) → 0 < c j → source c w j ≡ j

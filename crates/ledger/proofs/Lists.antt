@@ -10,14 +10,14 @@ use Rattle.limits.specs.Checks.{none}
 use Rattle.limits.specs.Outcome.{Outcome, done, refused}
 use Rattle.brent.specs.Outcome.{Values}
 use Rattle.surface.specs.Quotes.{Quote}
-use Rattle.book.specs.Model.{Opening, Model, Offer}
-use Rattle.book.specs.Tally.{Tally, fresh as noQuotes, step, tallyFrom, grewFrom}
-use Rattle.book.specs.Book.{Columns, openRefusal, isShort, offerOutcome}
-use Rattle.book.specs.Build.{quotesOf}
-use Rattle.book.specs.Claim.{Ledger, hear, hearAll, replies, isDone, valuesOf, sum, found, numberOf, numbersFrom, Evidence, Each, tallied, first-ledger, ledger, ListClaim}
-use Rattle.book.proofs.Quoted.{read-back}
-use Rattle.book.proofs.Agree.{Agree, start, unbroken}
-use Rattle.book.proofs.Once.{once}
+use Rattle.ledger.specs.Model.{Opening, Model, Offer}
+use Rattle.ledger.specs.Tally.{Tally, fresh as noQuotes, step, tallyFrom, grewFrom}
+use Rattle.ledger.specs.Book.{Columns, openRefusal, isShort, offerOutcome}
+use Rattle.ledger.specs.Build.{quotesOf}
+use Rattle.ledger.specs.Claim.{Ledger, hear, hearAll, replies, isDone, valuesOf, sum, found, numberOf, numbersFrom, Evidence, Each, tallied, first-ledger, ledger, ListClaim}
+use Rattle.ledger.proofs.Quoted.{read-back}
+use Rattle.ledger.proofs.Agree.{Agree, start, unbroken}
+use Rattle.ledger.proofs.Once.{once}
 
 module _ (model : Model) (opening : Opening) (was : Columns) (ok : openRefusal opening ≡ none) where
   abbrev evaluationsIn : Outcome Values → ℕ

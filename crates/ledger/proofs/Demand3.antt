@@ -2,11 +2,11 @@
 -- Assumes nothing.
 use borrow.Author.Tests.{eq-eqb, ne-eqb}
 use Rattle.limits.specs.Checks.{none}
-use Rattle.book.specs.Model.{Opening}
-use Rattle.book.specs.Book.{openRefusal, opened}
-use Rattle.book.specs.Claim.{Claim, OpeningClaim, tallied, ledger}
-use Rattle.book.proofs.Lists.{list-claim, agreed, quoted}
-use Rattle.book.proofs.Builds.{build-claim}
+use Rattle.ledger.specs.Model.{Opening}
+use Rattle.ledger.specs.Book.{openRefusal, opened}
+use Rattle.ledger.specs.Claim.{Claim, OpeningClaim, tallied, ledger}
+use Rattle.ledger.proofs.Lists.{list-claim, agreed, quoted}
+use Rattle.ledger.proofs.Builds.{build-claim}
 
 opens : (opening : Opening) → OpeningClaim opening (opened opening)
 unfolding opened

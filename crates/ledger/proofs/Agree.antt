@@ -12,11 +12,11 @@ use Rattle.limits.specs.Ranges.{isSpot, isRate}
 use Rattle.limits.specs.Checks.{first, none}
 use Rattle.limits.specs.Outcome.{refused}
 use Rattle.surface.specs.Quotes.{allInRange}
-use Rattle.book.specs.Model.{Opening}
-use Rattle.book.specs.Tally.{Tally, fresh as noQuotes}
-use Rattle.book.specs.Book.{Columns, fresh, openRefusal, isShort, isBroken}
-use Rattle.book.specs.Claim.{Ledger}
-use Rattle.book.proofs.Quoted.{Column, column-start}
+use Rattle.ledger.specs.Model.{Opening}
+use Rattle.ledger.specs.Tally.{Tally, fresh as noQuotes}
+use Rattle.ledger.specs.Book.{Columns, fresh, openRefusal, isShort, isBroken}
+use Rattle.ledger.specs.Claim.{Ledger}
+use Rattle.ledger.proofs.Quoted.{Column, column-start}
 
 -- What holds of the book, the columns and the tally after every list. `was` are the columns at first.
 pub record Agree (opening : Opening) (was : Columns) (l : Ledger) (t : Tally) : Type 0 where

@@ -9,7 +9,7 @@ use Rattle.grid.specs.Search.{firstWhere}
 use Rattle.surface.proofs.Examples.{one-column, two-columns, one-cell}
 use Rattle.surface.specs.Axis.{insert, sortedInto, keptAfter, thinned, near}
 use Rattle.surface.specs.Cells.{axes, counted}
-use Rattle.book.specs.Twelve.{Holds, table, columns, all-three}
+use Rattle.ledger.specs.Twelve.{Holds, table, columns, all-three}
 use mathlib.Core.List.{[], _∷_}
 
 three : columns all-three ≡ 2 ∷ 2 ∷ 1 ∷ []

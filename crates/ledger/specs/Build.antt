@@ -10,8 +10,8 @@ use Rattle.surface.specs.Quotes.{Quote, quotes}
 use Rattle.surface.specs.Cells.{axes, count, cell}
 use Rattle.surface.specs.Build.{front, table, Lengths, lengths, noLengths, refusal, outcome}
 use Rattle.surface.specs.declared.Built.{Built}
-use Rattle.book.specs.Book.{Columns, isShort, isBroken}
-use Rattle.book.specs.declared.Book.{Book}
+use Rattle.ledger.specs.Book.{Columns, isShort, isBroken}
+use Rattle.ledger.specs.declared.Book.{Book}
 use lib.ListN.{length}
 
 -- The lent surface: both axes, the cells, their counts.

@@ -16,10 +16,10 @@ use Rattle.brent.specs.Run.{Run, runWith}
 use Rattle.brent.proofs.Theorem.{claim as brent}
 use Rattle.brent.specs.Claim.{Given, five, eleven, twelve, thirteen, fourteen, evaluationsOf}
 use Rattle.greeks.specs.declared.OptionType.{OptionType}
-use Rattle.book.specs.Model.{Opening, Model, Offer, volatility, priced, strikeOf, expiryOf}
-use Rattle.book.specs.Tally.{Fate, listed, turned, isBarred, fateOfRun, fate}
-use Rattle.book.specs.Book.{ownRefusal, endOf, answer}
-use Rattle.book.specs.Claim.{Evidence, numberOf, numberOfRun, numberPast4}
+use Rattle.ledger.specs.Model.{Opening, Model, Offer, volatility, priced, strikeOf, expiryOf}
+use Rattle.ledger.specs.Tally.{Fate, listed, turned, isBarred, fateOfRun, fate}
+use Rattle.ledger.specs.Book.{ownRefusal, endOf, answer}
+use Rattle.ledger.specs.Claim.{Evidence, numberOf, numberOfRun, numberPast4}
 
 -- ---- three lines of checks: what their number says of them
 record Lines (a b c : Bool) (number : ℕ) : Type 0 where

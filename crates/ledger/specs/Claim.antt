@@ -22,11 +22,11 @@ use Rattle.surface.specs.Axis.{place}
 use Rattle.surface.specs.Cells.{axes, count, mean}
 use Rattle.surface.specs.Meaning.{sumTo}
 use Rattle.surface.specs.Build.{Lengths, lengths, noLengths}
-use Rattle.book.specs.Model.{Opening, Model, Offer, volatility, priced}
-use Rattle.book.specs.Tally.{Tally, fresh as noQuotes, step, tally, grew}
-use Rattle.book.specs.Book.{Columns, fresh, openRefusal, opened, isShort, isBroken, offerOutcome, bookAfter, columnsAfter}
-use Rattle.book.specs.Build.{Buffers, quotesOf, buildOutcome, buffersAfter}
-use Rattle.book.specs.declared.Book.{Book}
+use Rattle.ledger.specs.Model.{Opening, Model, Offer, volatility, priced}
+use Rattle.ledger.specs.Tally.{Tally, fresh as noQuotes, step, tally, grew}
+use Rattle.ledger.specs.Book.{Columns, fresh, openRefusal, opened, isShort, isBroken, offerOutcome, bookAfter, columnsAfter}
+use Rattle.ledger.specs.Build.{Buffers, quotesOf, buildOutcome, buffersAfter}
+use Rattle.ledger.specs.declared.Book.{Book}
 
 -- ---- a book that hears a list: "Each offer gets the record and columns as the last left them; nobody else writes the columns."
 pub record Ledger : Type 0 where

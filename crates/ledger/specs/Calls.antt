@@ -4,10 +4,10 @@ use mathlib.Core.Path.{_≡_}
 use Rattle.limits.specs.Outcome.{Outcome, done, refused}
 use Rattle.brent.specs.Outcome.{Values}
 use Rattle.greeks.specs.Implied.{outcomeOfImplied}
-use Rattle.book.specs.Model.{Model, Offer}
-use Rattle.book.specs.Book.{Columns, offerOutcome, bookAfter, columnsAfter}
-use Rattle.book.specs.declared.Book.{Book}
-use Rattle.book.specs.declared.Heard.{Heard}
+use Rattle.ledger.specs.Model.{Model, Offer}
+use Rattle.ledger.specs.Book.{Columns, offerOutcome, bookAfter, columnsAfter}
+use Rattle.ledger.specs.declared.Book.{Book}
+use Rattle.ledger.specs.declared.Heard.{Heard}
 
 -- The answer is that outcome, and the record what the outcome makes of it.
 pub record Replies (o : Outcome Values) (b : Book) (r : Heard) : Type 0 where

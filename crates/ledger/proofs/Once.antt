@@ -13,13 +13,13 @@ use Rattle.limits.specs.Checks.{first, none}
 use Rattle.limits.specs.Outcome.{Outcome, done, refused}
 use Rattle.brent.specs.Outcome.{Values, zeros}
 use Rattle.surface.specs.Quotes.{Quote}
-use Rattle.book.specs.Model.{Opening, Model, Offer, volatility, priced, strikeOf, expiryOf}
-use Rattle.book.specs.Tally.{Fate, listed, turned, fate, Tally, turnedDown, listedAt, tallied, step}
-use Rattle.book.specs.Book.{Columns, openingOf, openRefusal, isShort, ownRefusal, entryRefusal, offerRefusal, answer, offerOutcome, turnedBook, bookAfter, columnAfter, columnsAfter, volatilityOf}
-use Rattle.book.specs.Claim.{Ledger, isDone, valuesOf, found, numberOf, numberFrom, Evidence}
-use Rattle.book.proofs.Settled.{Accepted, Declined, Alike, settled, settles, settled-number}
-use Rattle.book.proofs.Quoted.{column-grows, ranged-more}
-use Rattle.book.proofs.Agree.{Agree, same-short, unbroken, long}
+use Rattle.ledger.specs.Model.{Opening, Model, Offer, volatility, priced, strikeOf, expiryOf}
+use Rattle.ledger.specs.Tally.{Fate, listed, turned, fate, Tally, turnedDown, listedAt, tallied, step}
+use Rattle.ledger.specs.Book.{Columns, openingOf, openRefusal, isShort, ownRefusal, entryRefusal, offerRefusal, answer, offerOutcome, turnedBook, bookAfter, columnAfter, columnsAfter, volatilityOf}
+use Rattle.ledger.specs.Claim.{Ledger, isDone, valuesOf, found, numberOf, numberFrom, Evidence}
+use Rattle.ledger.proofs.Settled.{Accepted, Declined, Alike, settled, settles, settled-number}
+use Rattle.ledger.proofs.Quoted.{column-grows, ranged-more}
+use Rattle.ledger.proofs.Agree.{Agree, same-short, unbroken, long}
 
 -- ---- what an offer is answered: by 1, 3 and 4, else as its own checks and its solver say
 abbrev replied : Bool → Bool → Bool → Outcome Values → Outcome Values

@@ -20,13 +20,13 @@ use Rattle.brent.specs.Run.{runWith}
 use Rattle.surface.specs.Quotes.{Quote, sideBySide}
 use Rattle.surface.specs.Build.{Lengths}
 use Rattle.surface.proofs.Choice.{split}
-use Rattle.book.specs.Model.{Opening, Model, Offer, volatility, priced}
-use Rattle.book.specs.Book.{Columns, openRefusal}
-use Rattle.book.specs.Build.{Buffers}
-use Rattle.book.specs.Claim.{Ledger, isDone, numberOf, Evidence, Each, Agrees, surfaceRefusal, BuildClaim, OpeningClaim}
-use Rattle.book.specs.declared.Book.{Book}
-use Rattle.book.proofs.Builds.{fits}
-use Rattle.book.proofs.TeethSurface.{two-parts, surface-fixed}
+use Rattle.ledger.specs.Model.{Opening, Model, Offer, volatility, priced}
+use Rattle.ledger.specs.Book.{Columns, openRefusal}
+use Rattle.ledger.specs.Build.{Buffers}
+use Rattle.ledger.specs.Claim.{Ledger, isDone, numberOf, Evidence, Each, Agrees, surfaceRefusal, BuildClaim, OpeningClaim}
+use Rattle.ledger.specs.declared.Book.{Book}
+use Rattle.ledger.proofs.Builds.{fits}
+use Rattle.ledger.proofs.TeethSurface.{two-parts, surface-fixed}
 
 -- ---- the answers
 module _ (model : Model) (opening : Opening) where

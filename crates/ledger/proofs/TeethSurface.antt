@@ -14,8 +14,8 @@ use Rattle.grid.specs.Layout.{cellAt}
 use Rattle.surface.specs.Quotes.{Quote}
 use Rattle.surface.specs.Cells.{axes, mean}
 use Rattle.surface.proofs.Choice.{split}
-use Rattle.book.specs.Build.{Buffers}
-use Rattle.book.specs.Claim.{Neighbour, left, right, rows, columns, countAt, SurfaceClaim}
+use Rattle.ledger.specs.Build.{Buffers}
+use Rattle.ledger.specs.Claim.{Neighbour, left, right, rows, columns, countAt, SurfaceClaim}
 
 -- ---- a column has one neighbour, and where a counted column stands to the left that is on the left
 pub left-first : (c : ℕ → ℕ) (w j k b : ℕ) → b < j → 0 < c b → Neighbour c w j k → k < j

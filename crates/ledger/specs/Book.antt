@@ -11,10 +11,10 @@ use Rattle.limits.specs.Checks.{first, none}
 use Rattle.limits.specs.Outcome.{Outcome, done, refused}
 use Rattle.brent.specs.Outcome.{Values, Reply, asking, ended, zeros}
 use Rattle.brent.specs.Run.{Run, runWith}
-use Rattle.book.specs.Model.{Opening, Model, Offer, volatility, priced, strikeOf, expiryOf}
-use Rattle.book.specs.declared.Book.{Book}
-use Rattle.book.specs.declared.Opened.{Opened}
-use Rattle.book.specs.declared.Opened.the-variants as Opened
+use Rattle.ledger.specs.Model.{Opening, Model, Offer, volatility, priced, strikeOf, expiryOf}
+use Rattle.ledger.specs.declared.Book.{Book}
+use Rattle.ledger.specs.declared.Opened.{Opened}
+use Rattle.ledger.specs.declared.Opened.the-variants as Opened
 
 -- ---- the record, and the columns that are lent
 abbrev pub openingOf : Book → Opening

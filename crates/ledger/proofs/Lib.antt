@@ -1,0 +1,10 @@
+pub mod Settled
+pub mod Quoted
+pub mod Agree
+pub mod Once
+pub mod Lists
+pub mod Builds
+pub mod Demand3
+pub mod TeethSurface
+pub mod Teeth
+pub mod Twelve
