@@ -9,10 +9,10 @@ use Rattle.floats.specs.Operators.{if_then_else_}
 use Rattle.limits.specs.Checks.{first, none}
 use Rattle.limits.specs.Outcome.{Outcome, done, refused}
 use Rattle.grid.specs.Answers.{answered, unlessRefused}
-use Rattle.surface.specs.Cells.{Axes, axes}
-use Rattle.surface.specs.Build.{Lengths, lengths, noLengths, refusal, outcome, Builds}
-use Rattle.surface.specs.declared.Built.{Built}
-use Rattle.surface.specs.declared.Built.the-variants.{Surface, Refused}
+use Rattle.chart.specs.Cells.{Axes, axes}
+use Rattle.chart.specs.Build.{Lengths, lengths, noLengths, refusal, outcome, Builds}
+use Rattle.chart.specs.declared.Built.{Built}
+use Rattle.chart.specs.declared.Built.the-variants.{Surface, Refused}
 use Rattle.ledger.specs.Book.{Columns, columns, isShort, isBroken}
 use Rattle.ledger.specs.Build.{Buffers, buffers, quotesOf, buildRefusal, buildOutcome, buffersAfter, BuildsBook}
 use Rattle.ledger.specs.declared.Book.{Book}

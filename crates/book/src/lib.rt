@@ -11,13 +11,13 @@ ghost use Rattle.brent.specs.Outcome.{zeros};
 ghost use Rattle.greeks.specs.Implied.{outcomeOfImplied};
 ghost use lib.ListN.{length, set};
 ghost use mathlib.Core.Bool.{false};
+use chart::Built;
 use greeks::Implied;
 use greeks::OptionParams;
 use greeks::OptionType;
 use ledger::Book;
 use ledger::Heard;
 use ledger::Opened;
-use surface::Built;
 
 // ---- the opening
 

@@ -16,11 +16,11 @@ use Rattle.grid.specs.Answers.{answered}
 use Rattle.grid.specs.Gaps.{fillOutcome, fillRefusal, FillsGaps}
 use Rattle.grid.specs.declared.Filling.{Filling}
 use Rattle.grid.specs.declared.Filling.the-variants as Filling
-use Rattle.surface.specs.declared.Built.{Built}
-use Rattle.surface.specs.declared.Built.the-variants as Built
-use Rattle.surface.specs.Quotes.{Quote}
-use Rattle.surface.specs.Cells.{axes}
-use Rattle.surface.specs.Build.{Lengths, noLengths, lengths, surface, outcome, Builds, numberOf as buildNumber}
+use Rattle.chart.specs.declared.Built.{Built}
+use Rattle.chart.specs.declared.Built.the-variants as Built
+use Rattle.chart.specs.Quotes.{Quote}
+use Rattle.chart.specs.Cells.{axes}
+use Rattle.chart.specs.Build.{Lengths, noLengths, lengths, surface, outcome, Builds, numberOf as buildNumber}
 use Rattle.ledger.specs.Model.{Opening, bsm, Offer}
 use Rattle.ledger.specs.Book.{zeroBook, openRefusal, isShort}
 use Rattle.ledger.specs.Build.{Buffers, buildOutcome}

@@ -10,9 +10,9 @@ use Rattle.floats.specs.Operators.{if_then_else_}
 use Rattle.limits.specs.Checks.{none}
 use Rattle.grid.specs.declared.Filling.{Filling}
 use Rattle.grid.specs.declared.Filling.the-variants as Filling
-use Rattle.surface.specs.declared.Built.{Built}
-use Rattle.surface.specs.declared.Built.the-variants as Built
-use Rattle.surface.specs.Build.{Builds}
+use Rattle.chart.specs.declared.Built.{Built}
+use Rattle.chart.specs.declared.Built.the-variants as Built
+use Rattle.chart.specs.Build.{Builds}
 use Rattle.ledger.specs.Model.{Opening, Offer}
 use Rattle.ledger.specs.Book.{zeroBook}
 use Rattle.trays.specs.Tray.{Lent, QuotesTray}

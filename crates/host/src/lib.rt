@@ -11,12 +11,13 @@ ghost use Rattle.greeks.specs.Checks.{outcomeOfPrice, pricing, outcomeOfGreeks,
 ghost use Rattle.greeks.specs.Implied.{outcomeOfImplied, implied};
 ghost use Rattle.grid.specs.Readings.{readOutcome, reading, middleStrike};
 ghost use Rattle.grid.specs.Gaps.{fillOutcome, FillsGaps};
-ghost use Rattle.surface.specs.Build.{outcome};
+ghost use Rattle.chart.specs.Build.{outcome};
 ghost use Rattle.ledger.specs.Book.{columns, endOf};
 ghost use Rattle.ledger.specs.Build.{buffers};
 ghost use Rattle.trays.specs.Tray.{slices, lent, heardOffers};
 ghost use Rattle.host.specs.Answers.{told, over, numberOf, valuesOf, kindOf, optionOf, greeksEntries, solvedEntries, written, solvedWritten};
 ghost use Rattle.host.specs.Calls.{fillingIn, lengthsOf, BuildsFor, bookOf, builtOf, QuotesFor};
+use chart::Built;
 use greeks::Greeks;
 use greeks::Implied;
 use greeks::OptionParams;
@@ -26,7 +27,6 @@ use greeks::Sensitivities;
 use grid::Filling;
 use grid::Reading;
 use ledger::Book;
-use surface::Built;
 use trays::Tray;
 
 // ---- the functions of src/normal.rs and what it calls

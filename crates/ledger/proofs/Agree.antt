@@ -11,7 +11,7 @@ use Rattle.floats.proofs.Tests.{or-right-false}
 use Rattle.limits.specs.Ranges.{isSpot, isRate}
 use Rattle.limits.specs.Checks.{first, none}
 use Rattle.limits.specs.Outcome.{refused}
-use Rattle.surface.specs.Quotes.{allInRange}
+use Rattle.chart.specs.Quotes.{allInRange}
 use Rattle.ledger.specs.Model.{Opening}
 use Rattle.ledger.specs.Tally.{Tally, fresh as noQuotes}
 use Rattle.ledger.specs.Book.{Columns, fresh, openRefusal, isShort, isBroken}

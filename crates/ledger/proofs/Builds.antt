@@ -16,13 +16,13 @@ use lib.Ieee.{nan}
 use Rattle.floats.proofs.Tests.{or-right-false}
 use Rattle.limits.specs.Checks.{first, none}
 use Rattle.grid.specs.Answers.{answered, unlessRefused}
-use Rattle.surface.specs.Quotes.{Quote, quotes, allInRange}
-use Rattle.surface.specs.Axis.{place}
-use Rattle.surface.specs.Cells.{Axes, axes, Housed, count, mean, leftward, rightward, either, source, cell}
-use Rattle.surface.specs.Build.{front, table, lengths, noLengths, refusal}
-use Rattle.surface.proofs.Housing.{meaning}
-use Rattle.surface.proofs.Layouts.{table-length, table-at, table-else}
-use Rattle.surface.proofs.Neighbour.{Left, Right, left-is, right-is}
+use Rattle.chart.specs.Quotes.{Quote, quotes, allInRange}
+use Rattle.chart.specs.Axis.{place}
+use Rattle.chart.specs.Cells.{Axes, axes, Housed, count, mean, leftward, rightward, either, source, cell}
+use Rattle.chart.specs.Build.{front, table, lengths, noLengths, refusal}
+use Rattle.chart.proofs.Housing.{meaning}
+use Rattle.chart.proofs.Layouts.{table-length, table-at, table-else}
+use Rattle.chart.proofs.Neighbour.{Left, Right, left-is, right-is}
 use Rattle.ledger.specs.Model.{Opening}
 use Rattle.ledger.specs.Tally.{Tally}
 use Rattle.ledger.specs.Book.{Columns, openRefusal, isShort}

@@ -9,7 +9,7 @@ use lib.Ieee.{Float}
 use Rattle.limits.specs.Checks.{none}
 use Rattle.limits.specs.Outcome.{Outcome, done, refused}
 use Rattle.brent.specs.Outcome.{Values}
-use Rattle.surface.specs.Quotes.{Quote}
+use Rattle.chart.specs.Quotes.{Quote}
 use Rattle.ledger.specs.Model.{Opening, Model, Offer}
 use Rattle.ledger.specs.Tally.{Tally, fresh as noQuotes, step, tallyFrom, grewFrom}
 use Rattle.ledger.specs.Book.{Columns, openRefusal, isShort, offerOutcome}

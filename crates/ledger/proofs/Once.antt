@@ -12,7 +12,7 @@ use Rattle.floats.specs.Operators.{if_then_else_}
 use Rattle.limits.specs.Checks.{first, none}
 use Rattle.limits.specs.Outcome.{Outcome, done, refused}
 use Rattle.brent.specs.Outcome.{Values, zeros}
-use Rattle.surface.specs.Quotes.{Quote}
+use Rattle.chart.specs.Quotes.{Quote}
 use Rattle.ledger.specs.Model.{Opening, Model, Offer, volatility, priced, strikeOf, expiryOf}
 use Rattle.ledger.specs.Tally.{Fate, listed, turned, fate, Tally, turnedDown, listedAt, tallied, step}
 use Rattle.ledger.specs.Book.{Columns, openingOf, openRefusal, isShort, ownRefusal, entryRefusal, offerRefusal, answer, offerOutcome, turnedBook, bookAfter, columnAfter, columnsAfter, volatilityOf}

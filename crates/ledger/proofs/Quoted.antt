@@ -9,7 +9,7 @@ use lib.ListN.{length, take, drop, set, length-set}
 use lib.Seq.{take-suc-set, drop-set-lt, drop-drop}
 use lib.Ieee.{Float}
 use Rattle.floats.proofs.Tests.{and-left, and-right}
-use Rattle.surface.specs.Quotes.{Quote, sideBySide, inRange, allInRange}
+use Rattle.chart.specs.Quotes.{Quote, sideBySide, inRange, allInRange}
 
 pub record Column (f : Quote → Float) (kept : ℕ) (qs : List Quote) (was column : List Float) : Type 0 where
   pub front : take kept column ≡ map f qs

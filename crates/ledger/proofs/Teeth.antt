@@ -17,9 +17,9 @@ use Rattle.limits.specs.Outcome.{Outcome, done, refused}
 use Rattle.brent.specs.Outcome.{Values, ended, zeros}
 use Rattle.brent.specs.Feed.{over}
 use Rattle.brent.specs.Run.{runWith}
-use Rattle.surface.specs.Quotes.{Quote, sideBySide}
-use Rattle.surface.specs.Build.{Lengths}
-use Rattle.surface.proofs.Choice.{split}
+use Rattle.chart.specs.Quotes.{Quote, sideBySide}
+use Rattle.chart.specs.Build.{Lengths}
+use Rattle.chart.proofs.Choice.{split}
 use Rattle.ledger.specs.Model.{Opening, Model, Offer, volatility, priced}
 use Rattle.ledger.specs.Book.{Columns, openRefusal}
 use Rattle.ledger.specs.Build.{Buffers}

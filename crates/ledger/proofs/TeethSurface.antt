@@ -11,9 +11,9 @@ use lib.Seq.{ext-getD}
 use borrow.Author.Tests.{ltb-true, ltb-false}
 use lib.Ieee.{nan}
 use Rattle.grid.specs.Layout.{cellAt}
-use Rattle.surface.specs.Quotes.{Quote}
-use Rattle.surface.specs.Cells.{axes, mean}
-use Rattle.surface.proofs.Choice.{split}
+use Rattle.chart.specs.Quotes.{Quote}
+use Rattle.chart.specs.Cells.{axes, mean}
+use Rattle.chart.proofs.Choice.{split}
 use Rattle.ledger.specs.Build.{Buffers}
 use Rattle.ledger.specs.Claim.{Neighbour, left, right, rows, columns, countAt, SurfaceClaim}
 

@@ -6,9 +6,9 @@ use Rattle.normal.proofs.Examples as normal
 use Rattle.brent.proofs.Examples as brent
 use Rattle.grid.proofs.Examples.{row-filled}
 use Rattle.grid.specs.Search.{firstWhere}
-use Rattle.surface.proofs.Examples.{one-column, two-columns, one-cell}
-use Rattle.surface.specs.Axis.{insert, sortedInto, keptAfter, thinned, near}
-use Rattle.surface.specs.Cells.{axes, counted}
+use Rattle.chart.proofs.Examples.{one-column, two-columns, one-cell}
+use Rattle.chart.specs.Axis.{insert, sortedInto, keptAfter, thinned, near}
+use Rattle.chart.specs.Cells.{axes, counted}
 use Rattle.ledger.specs.Twelve.{Holds, table, columns, all-three}
 use mathlib.Core.List.{[], _∷_}
 

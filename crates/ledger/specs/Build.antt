@@ -6,10 +6,10 @@ use lib.Ieee.{Float}
 use Rattle.limits.specs.Checks.{first}
 use Rattle.limits.specs.Outcome.{Outcome}
 use Rattle.grid.specs.Answers.{answered, unlessRefused}
-use Rattle.surface.specs.Quotes.{Quote, quotes}
-use Rattle.surface.specs.Cells.{axes, count, cell}
-use Rattle.surface.specs.Build.{front, table, Lengths, lengths, noLengths, refusal, outcome}
-use Rattle.surface.specs.declared.Built.{Built}
+use Rattle.chart.specs.Quotes.{Quote, quotes}
+use Rattle.chart.specs.Cells.{axes, count, cell}
+use Rattle.chart.specs.Build.{front, table, Lengths, lengths, noLengths, refusal, outcome}
+use Rattle.chart.specs.declared.Built.{Built}
 use Rattle.ledger.specs.Book.{Columns, isShort, isBroken}
 use Rattle.ledger.specs.declared.Book.{Book}
 use lib.ListN.{length}

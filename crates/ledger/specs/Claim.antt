@@ -17,11 +17,11 @@ use Rattle.brent.specs.Run.{runWith}
 use Rattle.brent.specs.Claim.{Success}
 use Rattle.grid.specs.Answers.{answered}
 use Rattle.grid.specs.Layout.{cellAt}
-use Rattle.surface.specs.Quotes.{Quote}
-use Rattle.surface.specs.Axis.{place}
-use Rattle.surface.specs.Cells.{axes, count, mean}
-use Rattle.surface.specs.Meaning.{sumTo}
-use Rattle.surface.specs.Build.{Lengths, lengths, noLengths}
+use Rattle.chart.specs.Quotes.{Quote}
+use Rattle.chart.specs.Axis.{place}
+use Rattle.chart.specs.Cells.{axes, count, mean}
+use Rattle.chart.specs.Meaning.{sumTo}
+use Rattle.chart.specs.Build.{Lengths, lengths, noLengths}
 use Rattle.ledger.specs.Model.{Opening, Model, Offer, volatility, priced}
 use Rattle.ledger.specs.Tally.{Tally, fresh as noQuotes, step, tally, grew}
 use Rattle.ledger.specs.Book.{Columns, fresh, openRefusal, opened, isShort, isBroken, offerOutcome, bookAfter, columnsAfter}

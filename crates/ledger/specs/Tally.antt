@@ -11,7 +11,7 @@ use Rattle.limits.specs.Ranges.{isPrice, isStrike, isExpiry, isVolatility}
 use Rattle.limits.specs.Outcome.{done, refused}
 use Rattle.brent.specs.Outcome.{Reply, asking, ended}
 use Rattle.brent.specs.Run.{runWith}
-use Rattle.surface.specs.Quotes.{Quote}
+use Rattle.chart.specs.Quotes.{Quote}
 use Rattle.ledger.specs.Model.{Opening, Model, Offer, volatility, priced, strikeOf, expiryOf}
 
 -- What becomes of an offer once 1 to 4 are passed: its quote is listed with this volatility, or it is turned down. Beside it, the prices obtained.

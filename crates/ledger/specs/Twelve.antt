@@ -14,9 +14,9 @@ use Rattle.brent.specs.Outcome.{Reply, ended, zeros}
 use Rattle.brent.specs.Feed.{over}
 use Rattle.brent.specs.Run.{Run, run}
 use Rattle.grid.specs.Gaps.{swept}
-use Rattle.surface.specs.Quotes.{Quote}
-use Rattle.surface.specs.Axis.{axis}
-use Rattle.surface.specs.Cells.{axes, count, cell}
+use Rattle.chart.specs.Quotes.{Quote}
+use Rattle.chart.specs.Axis.{axis}
+use Rattle.chart.specs.Cells.{axes, count, cell}
 
 -- A row: a value of some type, got and wanted.
 pub record Row : Type 1 where

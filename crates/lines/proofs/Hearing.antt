@@ -8,9 +8,9 @@ use Rattle.brent.specs.Outcome.{Values}
 use Rattle.greeks.specs.Implied.{outcomeOfImplied}
 use Rattle.grid.specs.Readings.{reading, readOutcome}
 use Rattle.grid.specs.declared.Reading.{Reading}
-use Rattle.surface.specs.Build.{outcome}
-use Rattle.surface.specs.declared.Built.{Built}
-use Rattle.surface.specs.declared.Built.the-variants as Built
+use Rattle.chart.specs.Build.{outcome}
+use Rattle.chart.specs.declared.Built.{Built}
+use Rattle.chart.specs.declared.Built.the-variants as Built
 use Rattle.ledger.specs.Model.{bsm, Offer}
 use Rattle.ledger.specs.Book.{Columns, offerOutcome}
 use Rattle.ledger.specs.Calls.{Offers}

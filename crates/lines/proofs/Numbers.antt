@@ -16,7 +16,7 @@ use Rattle.brent.proofs.Theorem.{claim}
 use Rattle.greeks.specs.declared.OptionType.the-variants as OptionType
 use Rattle.grid.specs.Answers.{answered}
 use Rattle.grid.specs.Readings.{readRefusal, reading}
-use Rattle.surface.specs.Build.{Lengths, refusal}
+use Rattle.chart.specs.Build.{Lengths, refusal}
 use Rattle.ledger.specs.Model.{Opening, Model, bsm, Offer, volatility, priced}
 use Rattle.ledger.specs.Book.{Columns, openRefusal, opened, ownRefusal, entryRefusal, offerRefusal, endOf, answer, offerOutcome}
 use Rattle.ledger.specs.Build.{Buffers, buildRefusal, buildOutcome, buffersAfter}

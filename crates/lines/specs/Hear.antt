@@ -8,7 +8,7 @@ use Rattle.limits.specs.Outcome.{Outcome, done, refused}
 use Rattle.brent.specs.Outcome.{Values}
 use Rattle.greeks.specs.declared.OptionType.the-variants as OptionType
 use Rattle.grid.specs.Readings.{reading}
-use Rattle.surface.specs.Build.{Lengths}
+use Rattle.chart.specs.Build.{Lengths}
 use Rattle.ledger.specs.Model.{Opening, bsm, Offer, volatility, priced}
 use Rattle.ledger.specs.Book.{Columns, zeroBook, opened, offerOutcome}
 use Rattle.ledger.specs.Build.{Buffers, buffers, buildOutcome, buffersAfter}

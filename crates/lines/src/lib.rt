@@ -15,6 +15,7 @@ ghost use Rattle.frames.specs.Moves.{sessionOf};
 ghost use Rattle.lines.specs.Hear.{ledger, said, opens, reads, hears};
 ghost use Rattle.lines.specs.Calls.{AnswersLine, fresh, lineStep, lineAfter, state, left, fed, finished, allAnswered};
 ghost use Rattle.lines.specs.Moves.{heardOf, place, Room, Goes, counted, Counts};
+use chart::Built;
 use frames::Frame;
 use frames::Line;
 use greeks::Implied;
@@ -22,7 +23,6 @@ use grid::Reading;
 use ledger::Book;
 use ledger::Heard;
 use ledger::Opened;
-use surface::Built;
 
 // What a frame leads to: the record, the number of its answer (0 for done) and its value.
 struct Said {

@@ -2,6 +2,7 @@
 // program computes the answer anew and compares, and writes each line that differs and the totals by kind. oracle/src/bin/sample.rs writes the sample and
 // says what a line holds.
 ghost use Prim.Native.Nat.{_+_, _*_, _≤_, _<_};
+use chart::Built;
 use greeks::Greeks;
 use greeks::Implied;
 use greeks::OptionParams;
@@ -11,7 +12,6 @@ use greeks::Sensitivities;
 use grid::Filling;
 use grid::Reading;
 use libc::STDOUT_FILENO;
-use surface::Built;
 
 // ---- a line
 

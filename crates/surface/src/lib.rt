@@ -11,11 +11,12 @@ ghost use Rattle.limits.specs.Ranges.{isStrike, isExpiry, isVolatility};
 ghost use Rattle.limits.specs.Checks.{first, none};
 ghost use Rattle.grid.specs.Search.{firstWhere};
 ghost use Rattle.grid.specs.Layout.{cellAt, values};
-ghost use Rattle.surface.specs.Quotes.{quotes, allInRange};
-ghost use Rattle.surface.specs.Axis.{insert, sort, thinned, axis, near, place};
-ghost use Rattle.surface.specs.Cells.{Housed, source};
-ghost use Rattle.surface.specs.Steps.{axesOf, Blank, Filed, held, RowsWritten, CellsWritten};
-ghost use Rattle.surface.specs.Build.{front, refusal, Builds};
+ghost use Rattle.chart.specs.Quotes.{quotes, allInRange};
+ghost use Rattle.chart.specs.Axis.{insert, sort, thinned, axis, near, place};
+ghost use Rattle.chart.specs.Cells.{Housed, source};
+ghost use Rattle.chart.specs.Steps.{axesOf, Blank, Filed, held, RowsWritten, CellsWritten};
+ghost use Rattle.chart.specs.Build.{front, refusal, Builds};
+use chart::Built;
 
 // The index of the first of the n values above x, or n.
 fn first_above(a: &[f64], n: usize, x: f64) -> usize
@@ -360,11 +361,6 @@ fn axes_number(strikes: usize, expiries: usize) -> u64
         return 17;
     }
     0
-}
-
-pub enum Built {
-    Surface { strikes: usize, expiries: usize },
-    Refused { number: u64 },
 }
 
 // Builds the surface of the columns' first `count` quotes.

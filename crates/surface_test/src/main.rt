@@ -3,11 +3,11 @@
 ghost use Prim.Native.Nat.{_+_, _≤_, _<_};
 ghost use mathlib.Core.Path.{_≡_};
 ghost use lib.ListN.{length};
+use chart::Built;
 use grid::Filling;
 use grid::Reading;
 use libc::STDIN_FILENO;
 use libc::STDOUT_FILENO;
-use surface::Built;
 
 fn wide(b: u8) -> u64 {
     b as u64

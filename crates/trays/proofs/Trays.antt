@@ -8,9 +8,9 @@ use lib.Ieee.{Float}
 use borrow.Author.Tests.{eq-eqb, ne-eqb, eqb-true, eqb-false}
 use Rattle.limits.specs.Checks.{none}
 use Rattle.limits.specs.Outcome.{Outcome, done, refused}
-use Rattle.surface.specs.declared.Built.{Built}
-use Rattle.surface.specs.Build.{outcome}
-use Rattle.surface.proofs.Choice.{split}
+use Rattle.chart.specs.declared.Built.{Built}
+use Rattle.chart.specs.Build.{outcome}
+use Rattle.chart.proofs.Choice.{split}
 use Rattle.ledger.specs.Model.{Opening, bsm, Offer}
 use Rattle.ledger.specs.Book.{Columns, fresh, zeroBook, openRefusal, opened}
 use Rattle.ledger.specs.Build.{Buffers, buildOutcome, buffersAfter, BuildsBook}

@@ -15,7 +15,7 @@ use Rattle.greeks.specs.declared.OptionType.the-variants.{Call, Put}
 use Rattle.grid.specs.Layout.{values}
 use Rattle.ledger.specs.Model.{Opening, Model, bsm, Offer, volatility, priced}
 use Rattle.ledger.specs.Book.{Columns, fresh, zeroBook, openRefusal, volatilityOf}
-use Rattle.surface.specs.Build.{Lengths, outcome}
+use Rattle.chart.specs.Build.{Lengths, outcome}
 use Rattle.ledger.specs.Build.{Buffers, buildOutcome, buffersAfter}
 use Rattle.ledger.specs.Claim.{Ledger, hearAll, replies, numberOf, Demand3}
 use Rattle.ledger.specs.declared.Book.{Book}

@@ -9,11 +9,11 @@ ghost use Rattle.ledger.specs.Build.{buffers};
 ghost use Rattle.ledger.specs.Calls.{Offers};
 ghost use Rattle.ledger.specs.Claim.{numberOf};
 ghost use Rattle.trays.specs.Tray.{offerOf, slices, offers, WritesAnswer, HearsAll, shortest, lent, heardOffers, QuotesTray};
+use chart::Built;
 use greeks::Implied;
 use ledger::Book;
 use ledger::Heard;
 use ledger::Opened;
-use surface::Built;
 
 // What a tray is answered: its opening was refused, or its record and the build's answer.
 pub enum Tray {

@@ -1,7 +1,7 @@
 -- `host::kite_quote_tray`: the number, the totals and the lengths stand for the answer of the tray below. Assumes nothing.
 use mathlib.Core.Path.{ap, _∙_}
-use Rattle.surface.specs.Build.{outcome}
-use Rattle.surface.specs.declared.Built.{Built}
+use Rattle.chart.specs.Build.{outcome}
+use Rattle.chart.specs.declared.Built.{Built}
 use Rattle.host.specs.Answers.{numberOf}
 use Rattle.host.specs.Calls.{lengthsOf, totalsOf}
 use Rattle.host.proofs.Lending.{quotes}

@@ -1,6 +1,6 @@
 -- `surface::are_quotes`: the quotes passed are in range, so the rest decides. Assumes nothing.
-use Rattle.surface.proofs.Kept.{range-on, range-stop, range-end}
-use Rattle.surface.specs.Quotes.{quotes, allInRange}
+use Rattle.chart.proofs.Kept.{range-on, range-stop, range-end}
+use Rattle.chart.specs.Quotes.{quotes, allInRange}
 use borrow.Author.Tests.{not-true, not-false}
 use Prim.Native.Nat.{_-_, _≤_}
 use mathlib.Core.Path.{_≡_, refl, sym, _∙_}

@@ -1,7 +1,7 @@
 -- `surface::build`: what no check turned down has axes that fit, and every quote a cell on them. Assumes nothing.
-use Rattle.surface.proofs.BuildChecks.{Passed, passed, refused, axes-fit}
-use Rattle.surface.proofs.Made.{strikes-made, expiries-made, made-size, axes-refused, made-housed, made-built}
-use Rattle.surface.specs.Build.{refusal}
+use Rattle.chart.proofs.BuildChecks.{Passed, passed, refused, axes-fit}
+use Rattle.chart.proofs.Made.{strikes-made, expiries-made, made-size, axes-refused, made-housed, made-built}
+use Rattle.chart.specs.Build.{refusal}
 use lib.Seq.{length-take-le}
 use Prim.Native.Nat.{ℕ, _-_, _≤_}
 use mathlib.Core.Path.{_≡_, sym, _∙_}

@@ -1,6 +1,6 @@
 -- `surface::build_number`: the checks, a line each. Assumes nothing.
-use Rattle.surface.proofs.BuildChecks.{long-columns}
-use Rattle.surface.specs.Build.{refusal}
+use Rattle.chart.proofs.BuildChecks.{long-columns}
+use Rattle.chart.specs.Build.{refusal}
 use Rattle.limits.specs.Checks.{first}
 use borrow.Author.Tests.{lt-ltb, le-ltb, not-true, not-false}
 use Prim.Native.Nat.{_-_}

@@ -1,5 +1,5 @@
 -- `surface::copy_front`: a loop that copies one value more in each round. Assumes nothing.
-use Rattle.surface.proofs.Gap.{copy-step}
+use Rattle.chart.proofs.Gap.{copy-step}
 use lib.Seq.{take-length}
 use Prim.Native.Nat.{_+_, _-_, _≤_, _<_}
 use mathlib.Core.Path.{_≡_, refl}

@@ -1,7 +1,7 @@
 -- `surface::fill_cells`: the quotes are filed, and the rows written. Assumes nothing.
-use Rattle.surface.proofs.Tables.{filed-cells, filed-counts}
-use Rattle.surface.specs.Steps.{axesOf}
-use Rattle.surface.specs.Quotes.{quotes}
+use Rattle.chart.proofs.Tables.{filed-cells, filed-counts}
+use Rattle.chart.specs.Steps.{axesOf}
+use Rattle.chart.specs.Quotes.{quotes}
 use lib.ListN.{getD-replicate}
 use Prim.Native.Nat.{_-_}
 use mathlib.Core.Path.{refl}

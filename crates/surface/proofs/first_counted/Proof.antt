@@ -1,5 +1,5 @@
 -- `surface::first_counted`: the search stops at the first counted column. Assumes nothing.
-use Rattle.surface.proofs.Neighbour.{Seeking, seek-start, seek-on, seek-hit, seek-end}
+use Rattle.chart.proofs.Neighbour.{Seeking, seek-start, seek-on, seek-hit, seek-end}
 use Prim.Native.Nat.{_-_, _≤_}
 use mathlib.Core.Path.{_≡_, refl}
 use lib.ListN.{length, getD}

@@ -1,5 +1,5 @@
 -- `surface::insert_into`: a gap opened before the first value above x. Assumes nothing.
-use Rattle.surface.proofs.Sorting.{place-most, insert-gap}
+use Rattle.chart.proofs.Sorting.{place-most, insert-gap}
 use Prim.Native.Nat.{_-_, _≤_}
 use lib.ListN.{length}
 use borrow.Author.Needs.{needs}

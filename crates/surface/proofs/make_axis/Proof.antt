@@ -1,5 +1,5 @@
 -- `surface::make_axis`: sorted, then thinned. Assumes nothing.
-use Rattle.surface.specs.Axis.{thinned}
+use Rattle.chart.specs.Axis.{thinned}
 use Prim.Native.Nat.{_-_}
 use mathlib.Core.Path.{_∙_, ap}
 use mathlib.Core.List.{List}

@@ -1,5 +1,5 @@
 -- `surface::near`: the magnitude of the difference, against 1e-12. Assumes nothing.
-use Rattle.surface.specs.Axis.{near}
+use Rattle.chart.specs.Axis.{near}
 use Prim.Native.Nat.{_-_}
 use lib.Ieee.{ofBits, round}
 use borrow.Author.Needs.{needs}

@@ -1,5 +1,5 @@
 -- `surface::open_gap`: opening the gap at j with what is carried gives what opening it at p with x gives. Assumes nothing.
-use Rattle.surface.proofs.Gap.{opened, gap-step, gap-end}
+use Rattle.chart.proofs.Gap.{opened, gap-step, gap-end}
 use Prim.Native.Nat.{_-_, _≤_, _<_}
 use mathlib.Core.Path.{_≡_, refl, _∙_}
 use lib.ListN.{length, length-set}

@@ -1,6 +1,6 @@
 -- `surface::place`: the search stops at the first axis value that takes x. Assumes nothing.
 use Rattle.grid.proofs.First.{Looking, look-start, look-on, look-hit, look-end, look-all}
-use Rattle.surface.specs.Axis.{near}
+use Rattle.chart.specs.Axis.{near}
 use Prim.Native.Nat.{_-_, _≤_}
 use mathlib.Core.Path.{_≡_, refl, sym, _∙_}
 use lib.ListN.{length}

@@ -1,6 +1,6 @@
 -- `surface::sort_into`: what is sorted, and the rest inserted into it, is the sorted list. Assumes nothing.
-use Rattle.surface.proofs.Sorting.{sort-step, sort-end}
-use Rattle.surface.specs.Axis.{sortedInto, sort}
+use Rattle.chart.proofs.Sorting.{sort-step, sort-end}
+use Rattle.chart.specs.Axis.{sortedInto, sort}
 use Prim.Native.Nat.{_-_, _≤_}
 use mathlib.Core.Path.{_≡_, refl, sym, _∙_}
 use lib.ListN.{length, take, drop}

@@ -1,9 +1,9 @@
 -- `surface::tally`: each quote has its cell, where it is filed. Assumes nothing.
-use Rattle.surface.proofs.Filing.{Filing, home-of, file-start, file-few, file-put, file-end}
-use Rattle.surface.proofs.Kept.{quotes-at, quotes-end, length-quotes}
-use Rattle.surface.specs.Quotes.{quotes}
-use Rattle.surface.specs.Axis.{place}
-use Rattle.surface.specs.Steps.{axesOf}
+use Rattle.chart.proofs.Filing.{Filing, home-of, file-start, file-few, file-put, file-end}
+use Rattle.chart.proofs.Kept.{quotes-at, quotes-end, length-quotes}
+use Rattle.chart.specs.Quotes.{quotes}
+use Rattle.chart.specs.Axis.{place}
+use Rattle.chart.specs.Steps.{axesOf}
 use Prim.Native.Nat.{ℕ, _-_, _≤_, _<_}
 use mathlib.Core.Path.{_≡_, refl, sym, _∙_}
 use lib.ListN.{length, getD}

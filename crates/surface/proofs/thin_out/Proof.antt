@@ -1,6 +1,6 @@
 -- `surface::thin_out`: what is kept, and what is kept of the rest after the last one kept, is the thinned list. Assumes nothing.
-use Rattle.surface.proofs.Sorting.{thin-start, thin-drop, thin-keep, thin-end}
-use Rattle.surface.specs.Axis.{keptAfter, thinned}
+use Rattle.chart.proofs.Sorting.{thin-start, thin-drop, thin-keep, thin-end}
+use Rattle.chart.specs.Axis.{keptAfter, thinned}
 use Prim.Native.Nat.{_+_, _-_, _≤_, _<_}
 use mathlib.Core.Path.{_≡_, refl, sym, _∙_}
 use mathlib.Core.List.{_++_}

@@ -1,8 +1,8 @@
 -- `surface::write_row`: in each round `last` is what the column before holds. Assumes nothing.
 use Rattle.grid.proofs.Rows.{Written, write-start, write-step, write-end}
-use Rattle.surface.proofs.Tables.{no-values}
-use Rattle.surface.proofs.Neighbour.{held-step, held-next, held-first, first-below}
-use Rattle.surface.specs.Steps.{held}
+use Rattle.chart.proofs.Tables.{no-values}
+use Rattle.chart.proofs.Neighbour.{held-step, held-next, held-first, first-below}
+use Rattle.chart.specs.Steps.{held}
 use Prim.Native.Nat.{_-_, _≤_}
 use mathlib.Core.Path.{_≡_, refl}
 use lib.ListN.{length, getD, length-set}

@@ -1,9 +1,9 @@
 -- `surface::write_rows`: one row more in each round, lent as parts and given back. Assumes nothing.
-use Rattle.surface.proofs.Tables.{table-step, row-cells, row-counts}
+use Rattle.chart.proofs.Tables.{table-step, row-cells, row-counts}
 use Rattle.grid.proofs.Rows.{part-length}
 use borrow.Rule.Slice.PartMut.{same-len-mid}
-use Rattle.surface.specs.Build.{table}
-use Rattle.surface.specs.Steps.{held}
+use Rattle.chart.specs.Build.{table}
+use Rattle.chart.specs.Steps.{held}
 use Rattle.grid.specs.Layout.{cellAt}
 use Prim.Native.Nat.{_+_, _-_, _*_, _≤_}
 use mathlib.Core.Path.{_≡_, refl, sym, _∙_}

@@ -10,8 +10,8 @@ use lib.ListN.{length, take, drop, getD, length-append, length-drop, List·getD-
 use lib.Seq.{getD-take, getD-drop, getD-append-add, length-take-le}
 use borrow.Author.Tests.{ltb-true, ltb-false}
 use Rattle.grid.specs.Layout.{cellAt, values, partly}
-use Rattle.surface.specs.Build.{table}
-use Rattle.surface.proofs.Choice.{split}
+use Rattle.chart.specs.Build.{table}
+use Rattle.chart.proofs.Choice.{split}
 
 length-values : {X : Type 0} (f : ℕ → X) (n k : ℕ) → length (values f n k) ≡ n
 unfolding values

@@ -21,10 +21,10 @@ use Rattle.floats.proofs.Tests.{clash}
 use Rattle.floats.proofs.Order.{Under, under-trans, under-of-not-lt, sub-down, sub-either}
 use Rattle.grid.specs.Search.{firstWhere}
 use Rattle.grid.specs.Readings.{ascends, isAxis}
-use Rattle.surface.specs.Axis.{hair, keptAfter, thinned, axis, near, place}
-use Rattle.surface.specs.Meaning.{SpacedAfter, Spaced}
-use Rattle.surface.proofs.Choice.{split}
-use Rattle.surface.proofs.Ordered.{Mem, Pos, Over, Ordered, sort-pos, sort-ordered, sort-mem, mem-sort}
+use Rattle.chart.specs.Axis.{hair, keptAfter, thinned, axis, near, place}
+use Rattle.chart.specs.Meaning.{SpacedAfter, Spaced}
+use Rattle.chart.proofs.Choice.{split}
+use Rattle.chart.proofs.Ordered.{Mem, Pos, Over, Ordered, sort-pos, sort-ordered, sort-mem, mem-sort}
 
 -- ---- near and far
 -- a value less than a hair above the last one kept belongs to it

@@ -10,12 +10,12 @@ use lib.Ieee.{Float, nan}
 use borrow.Rule.Slice.PartMut.{putMid}
 use Rattle.grid.specs.Layout.{cellAt, values, partly}
 use Rattle.grid.proofs.Rows.{part-length}
-use Rattle.surface.specs.Build.{table}
+use Rattle.chart.specs.Build.{table}
 use Rattle.floats.specs.Operators.{decimal}
-use Rattle.surface.specs.Quotes.{Quote}
-use Rattle.surface.specs.Cells.{Axes, counted, count, added, cell}
-use Rattle.surface.specs.Steps.{held, Filed}
-use Rattle.surface.proofs.Neighbour.{held-same}
+use Rattle.chart.specs.Quotes.{Quote}
+use Rattle.chart.specs.Cells.{Axes, counted, count, added, cell}
+use Rattle.chart.specs.Steps.{held, Filed}
+use Rattle.chart.proofs.Neighbour.{held-same}
 
 pub no-values : {X : Type 0} (f : ℕ → X) (row : List X) → length row ≡ 0 → row ≡ values f (length row) 0
 unfolding values

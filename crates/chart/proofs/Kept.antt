@@ -10,7 +10,7 @@ use lib.ListN.{length, take, drop, getD, drop-of-length-le}
 use lib.Seq.{getD-take, length-take-le}
 use lib.Ieee.{Float, nan}
 use Rattle.limits.specs.Ranges.{isStrike, isExpiry, isVolatility}
-use Rattle.surface.specs.Quotes.{Quote, sideBySide, quotes, allInRange}
+use Rattle.chart.specs.Quotes.{Quote, sideBySide, quotes, allInRange}
 
 abbrev pub quoteAt : List Float → List Float → List Float → ℕ → Quote
 quoteAt ks ts vs i = record { strike = getD ks i nan; expiry = getD ts i nan; volatility = getD vs i nan }

@@ -15,16 +15,16 @@ use Rattle.floats.proofs.Tests.{and-left, and-right}
 use Rattle.limits.specs.Ranges.{isStrike, isExpiry, isVolatility}
 use Rattle.limits.proofs.Ranges.{spot-positive, expiry-positive}
 use Rattle.grid.specs.Readings.{isAxis}
-use Rattle.surface.specs.Quotes.{Quote, inRange, allInRange}
-use Rattle.surface.specs.Axis.{axis, place}
-use Rattle.surface.specs.Cells.{Axes, axes, Housed, counted, count, leftward, rightward, either, source, cell}
-use Rattle.surface.specs.Meaning.{sumTo, allCounts, sourceIn, Meaning}
-use Rattle.surface.proofs.Choice.{split}
-use Rattle.surface.proofs.Ordered.{Mem, Pos, sort-sorted, sort-same}
-use Rattle.surface.proofs.Spread.{placed, axis-spaced, axis-place, axis-member, axis-axis}
-use Rattle.surface.proofs.Numbers.{mean-number}
-use Rattle.surface.proofs.Filing.{counted-most}
-use Rattle.surface.proofs.Neighbour.{Left, Right, left-is, right-is}
+use Rattle.chart.specs.Quotes.{Quote, inRange, allInRange}
+use Rattle.chart.specs.Axis.{axis, place}
+use Rattle.chart.specs.Cells.{Axes, axes, Housed, counted, count, leftward, rightward, either, source, cell}
+use Rattle.chart.specs.Meaning.{sumTo, allCounts, sourceIn, Meaning}
+use Rattle.chart.proofs.Choice.{split}
+use Rattle.chart.proofs.Ordered.{Mem, Pos, sort-sorted, sort-same}
+use Rattle.chart.proofs.Spread.{placed, axis-spaced, axis-place, axis-member, axis-axis}
+use Rattle.chart.proofs.Numbers.{mean-number}
+use Rattle.chart.proofs.Filing.{counted-most}
+use Rattle.chart.proofs.Neighbour.{Left, Right, left-is, right-is}
 
 -- ---- quotes in range have strikes and expiries that are finite and above 0
 abbrev strikes : List Quote → List Float

@@ -12,12 +12,12 @@ use borrow.Author.Tests.{eqb-true, eq-eqb}
 use Rattle.floats.specs.Operators.{decimal, _⊕_, if_then_else_}
 use Rattle.floats.proofs.Tests.{and-left, and-right, clash}
 use Rattle.grid.specs.Layout.{cellAt}
-use Rattle.surface.specs.Quotes.{Quote, quotes}
-use Rattle.surface.specs.Axis.{place}
-use Rattle.surface.specs.Cells.{Axes, Housed, counted, added}
-use Rattle.surface.specs.Steps.{Filed}
-use Rattle.surface.proofs.Choice.{split}
-use Rattle.surface.proofs.Kept.{quotes-at}
+use Rattle.chart.specs.Quotes.{Quote, quotes}
+use Rattle.chart.specs.Axis.{place}
+use Rattle.chart.specs.Cells.{Axes, Housed, counted, added}
+use Rattle.chart.specs.Steps.{Filed}
+use Rattle.chart.proofs.Choice.{split}
+use Rattle.chart.proofs.Kept.{quotes-at}
 
 -- no cell counts more quotes than there are
 pub counted-most : (x : Axes) (i j : ℕ) (qs : List Quote) → length (counted x i j qs) ≤ length qs

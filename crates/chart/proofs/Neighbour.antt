@@ -13,9 +13,9 @@ use lib.ListN.{length, getD}
 use lib.Ieee.{Float}
 use borrow.Author.Tests.{lt-ltb, le-ltb, ltb-true, ltb-false, eqb-true, eqb-false}
 use Rattle.floats.specs.Operators.{decimal, _⊘_, if_then_else_}
-use Rattle.surface.specs.Cells.{leftward, rightward, either, source}
-use Rattle.surface.specs.Steps.{held}
-use Rattle.surface.proofs.Choice.{split}
+use Rattle.chart.specs.Cells.{leftward, rightward, either, source}
+use Rattle.chart.specs.Steps.{held}
+use Rattle.chart.proofs.Choice.{split}
 
 source-own : (c : ℕ → ℕ) (w j : ℕ) → 0 < c j → source c w j ≡ j
 unfolding source

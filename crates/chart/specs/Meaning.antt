@@ -6,10 +6,10 @@ use mathlib.Core.List.{List, [], _∷_, map, List·Permᴰ}
 use lib.ListN.{length}
 use lib.Ieee.{Float, isNan}
 use Rattle.floats.specs.Operators.{_⊖_, _≺_}
-use Rattle.surface.specs.Quotes.{Quote}
-use Rattle.surface.specs.Axis.{hair, sort}
+use Rattle.chart.specs.Quotes.{Quote}
+use Rattle.chart.specs.Axis.{hair, sort}
 use Rattle.grid.specs.Readings.{isAxis}
-use Rattle.surface.specs.Cells.{Axes, axes, Housed, count, source, cell}
+use Rattle.chart.specs.Cells.{Axes, axes, Housed, count, source, cell}
 
 -- No value of the list is below x; and of no later one, for each value of a sorted list.
 abbrev pub NoneBelow : Float → List Float → Type 0

@@ -10,10 +10,10 @@ use Rattle.limits.specs.Checks.{first, none}
 use Rattle.limits.specs.Outcome.{Outcome, done, refused}
 use Rattle.grid.specs.Answers.{answered, unlessRefused}
 use Rattle.grid.specs.Layout.{cellAt, values, partly}
-use Rattle.surface.specs.Quotes.{quotes, allInRange}
-use Rattle.surface.specs.Cells.{Axes, axes, count, cell}
-use Rattle.surface.specs.declared.Built.{Built}
-use Rattle.surface.specs.declared.Built.the-variants.{Surface, Refused}
+use Rattle.chart.specs.Quotes.{quotes, allInRange}
+use Rattle.chart.specs.Cells.{Axes, axes, count, cell}
+use Rattle.chart.specs.declared.Built.{Built}
+use Rattle.chart.specs.declared.Built.the-variants.{Surface, Refused}
 
 -- The values in the front of a list, and the rest of it as it was.
 abbrev pub front : List Float → List Float → List Float

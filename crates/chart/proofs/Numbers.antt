@@ -15,10 +15,10 @@ use Rattle.floats.specs.Operators.{decimal, _⊕_, _⊘_}
 use Rattle.floats.proofs.Tests.{and-left, and-right}
 use Rattle.limits.specs.Ranges.{isStrike, isExpiry, isVolatility}
 use Rattle.limits.proofs.Ranges.{volatility-positive}
-use Rattle.surface.specs.Quotes.{Quote, inRange, allInRange}
-use Rattle.surface.specs.Axis.{place}
-use Rattle.surface.specs.Cells.{Axes, counted, added}
-use Rattle.surface.proofs.Choice.{split}
+use Rattle.chart.specs.Quotes.{Quote, inRange, allInRange}
+use Rattle.chart.specs.Axis.{place}
+use Rattle.chart.specs.Cells.{Axes, counted, added}
+use Rattle.chart.proofs.Choice.{split}
 
 -- a number, and the sign is clear
 abbrev plus : Float → Bool

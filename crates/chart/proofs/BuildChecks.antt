@@ -11,11 +11,11 @@ use borrow.Author.Tests.{ltb-false, not-false, ne-eqb}
 use Rattle.limits.specs.Checks.{first, none}
 use Rattle.grid.specs.Answers.{answered, unlessRefused}
 use Rattle.grid.proofs.ReadChecks.{neither}
-use Rattle.surface.specs.Quotes.{quotes, allInRange}
-use Rattle.surface.specs.Cells.{cell, count}
-use Rattle.surface.specs.Build.{front, table, refusal, numberOf, surface, Builds}
-use Rattle.surface.specs.declared.Built.the-variants.{Surface, Refused}
-use Rattle.surface.proofs.Choice.{split}
+use Rattle.chart.specs.Quotes.{quotes, allInRange}
+use Rattle.chart.specs.Cells.{cell, count}
+use Rattle.chart.specs.Build.{front, table, refusal, numberOf, surface, Builds}
+use Rattle.chart.specs.declared.Built.the-variants.{Surface, Refused}
+use Rattle.chart.proofs.Choice.{split}
 
 -- 16 and 17
 abbrev pub axesRefusal : ℕ → ℕ → ℕ

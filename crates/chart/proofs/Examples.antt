@@ -6,9 +6,9 @@ use lib.Ieee.{Float, sub, lt, add, div, round}
 use Rattle.floats.specs.Operators.{decimal}
 use Rattle.floats.specs.Values.{magnitude}
 use Rattle.grid.specs.Search.{firstWhere}
-use Rattle.surface.specs.Quotes.{Quote}
-use Rattle.surface.specs.Axis.{axis, insert, sortedInto, keptAfter, thinned, near}
-use Rattle.surface.specs.Cells.{axes, counted, count, added, cell, source, leftward, rightward}
+use Rattle.chart.specs.Quotes.{Quote}
+use Rattle.chart.specs.Axis.{axis, insert, sortedInto, keptAfter, thinned, near}
+use Rattle.chart.specs.Cells.{axes, counted, count, added, cell, source, leftward, rightward}
 
 -- 100, 100 + 2^-40 and 100 + 2^-39
 abbrev hundred : Float

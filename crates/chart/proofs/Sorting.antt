@@ -11,8 +11,8 @@ use lib.Ieee.{Float, nan}
 use Rattle.floats.specs.Operators.{_≺_, _⊖_}
 use Rattle.grid.specs.Search.{firstWhere}
 use Rattle.grid.proofs.First.{first-most}
-use Rattle.surface.specs.Axis.{insert, sortedInto, keptAfter, thinned, hair}
-use Rattle.surface.proofs.Choice.{split}
+use Rattle.chart.specs.Axis.{insert, sortedInto, keptAfter, thinned, hair}
+use Rattle.chart.proofs.Choice.{split}
 
 abbrev above : Float → List Float → ℕ
 above x ys = firstWhere (λ y. x ≺ y) ys

@@ -6,14 +6,14 @@ use native.Mathlib.Omega.{arith}
 use lib.ListN.{length, take}
 use lib.Seq.{length-take-le}
 use lib.Ieee.{Float}
-use Rattle.surface.specs.Quotes.{quotes}
-use Rattle.surface.specs.Axis.{axis}
-use Rattle.surface.specs.Cells.{Axes, axes, Housed, cell, count}
-use Rattle.surface.specs.Build.{front, table, surface, Builds}
-use Rattle.surface.specs.declared.Built.the-variants.{Surface, Refused}
-use Rattle.surface.proofs.Kept.{strikes-of, expiries-of}
-use Rattle.surface.proofs.BuildChecks.{axesRefusal, Passed, builds-refused, builds-done}
-use Rattle.surface.proofs.Housing.{all-housed}
+use Rattle.chart.specs.Quotes.{quotes}
+use Rattle.chart.specs.Axis.{axis}
+use Rattle.chart.specs.Cells.{Axes, axes, Housed, cell, count}
+use Rattle.chart.specs.Build.{front, table, surface, Builds}
+use Rattle.chart.specs.declared.Built.the-variants.{Surface, Refused}
+use Rattle.chart.proofs.Kept.{strikes-of, expiries-of}
+use Rattle.chart.proofs.BuildChecks.{axesRefusal, Passed, builds-refused, builds-done}
+use Rattle.chart.proofs.Housing.{all-housed}
 
 pub made-size : (K W : List Float) (n : ℕ) → n ≤ length W → take n W ≡ K → n ≡ length K
 made-size K W n h e = sym (length-take-le n W h) ∙ ap (λ (l : List Float). length l) e

@@ -6,9 +6,9 @@ use lib.ListN.{length, getD}
 use lib.Ieee.{Float, nan}
 use Rattle.floats.specs.Operators.{decimal, _⊘_}
 use Rattle.grid.specs.Layout.{cellAt}
-use Rattle.surface.specs.Quotes.{Quote}
-use Rattle.surface.specs.Cells.{Axes, counted, count, added, source, cell}
-use Rattle.surface.specs.Build.{table}
+use Rattle.chart.specs.Quotes.{Quote}
+use Rattle.chart.specs.Cells.{Axes, counted, count, added, source, cell}
+use Rattle.chart.specs.Build.{table}
 
 -- Two axes: the columns by strike, the rows by expiry.
 abbrev pub axesOf : List Float → List Float → Axes

@@ -10,9 +10,9 @@ use lib.Ieee.Positive.{positive}
 use borrow.Author.Tests.{le-ltb}
 use Rattle.floats.specs.Operators.{_≺_}
 use Rattle.floats.proofs.Order.{Under, under-trans, under-of-lt, under-of-not-lt}
-use Rattle.surface.specs.Axis.{insert, sortedInto, sort}
-use Rattle.surface.specs.Meaning.{NoneBelow, Sorted}
-use Rattle.surface.proofs.Choice.{split}
+use Rattle.chart.specs.Axis.{insert, sortedInto, sort}
+use Rattle.chart.specs.Meaning.{NoneBelow, Sorted}
+use Rattle.chart.proofs.Choice.{split}
 
 -- a member of a list
 abbrev pub Mem : Float → List Float → Type 0

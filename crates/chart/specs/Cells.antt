@@ -8,8 +8,8 @@ use lib.Dec.{ltb, eqb}
 use lib.ListN.{length}
 use lib.Ieee.{Float}
 use Rattle.floats.specs.Operators.{decimal, _⊕_, _⊘_, if_then_else_}
-use Rattle.surface.specs.Quotes.{Quote}
-use Rattle.surface.specs.Axis.{axis, place}
+use Rattle.chart.specs.Quotes.{Quote}
+use Rattle.chart.specs.Axis.{axis, place}
 
 pub record Axes : Type 0 where
   pub strikes : List Float
