@@ -671,6 +671,9 @@ class Documents(unittest.TestCase):
             drawn = Path(folder, 'morning.svg').read_text(encoding='utf-8')
         self.assertEqual(run.returncode, 0)
         self.assertIn('```text\n' + run.stdout + '```\n', (ROOT / 'docs' / 'QUOTE.md').read_text(encoding='utf-8'))
+        excerpt = (ROOT / 'README.md').read_text(encoding='utf-8').split('```text\n')[1].split('```')[0]
+        printed = iter(run.stdout.splitlines())
+        self.assertEqual([line for line in excerpt.splitlines() if line not in printed], [])
         self.assertEqual(drawn, (ROOT / 'examples' / 'morning.svg').read_text(encoding='utf-8'))
 
 
