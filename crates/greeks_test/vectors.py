@@ -3,8 +3,8 @@
 
     python3 vectors.py          writes stdin and stdout beside this file
 
-The expected bits come from a literal transcription, below, of document 01's exp, ln, square root and erfc, of src/normal.rs and of
-src/options/greeks.rs with document 01's checks, in Python's floats (binary64, each operation rounded once). Nothing of the Rattle code or of its
+The expected bits come from a literal transcription of document 01's exp, ln, square root and erfc and of src/normal.rs (normal_test/vectors.py), and
+below of src/options/greeks.rs with document 01's checks, in Python's floats (binary64, each operation rounded once). Nothing of the Rattle code or of its
 definitions is used. Put-call parity is held to the C library's exp. Standard library only.
 
 Published values, held to the digits printed (within half a unit of the last one):
@@ -27,91 +27,16 @@ A line that begins with '#' is a comment; one that begins with '.' ends a kind o
 import math
 import pathlib
 import random
-import struct
+import sys
 from fractions import Fraction
 
+sys.path.insert(0, str(pathlib.Path(__file__).resolve().parents[2] / "tests"))
+import transcriptions
+
 NAN, INF = math.nan, math.inf
-
-
-def bits(x):
-    return 0x7FF8000000000000 if x != x else struct.unpack(">Q", struct.pack(">d", x))[0]
-
-
-def real(b):
-    return struct.unpack(">d", struct.pack(">Q", b))[0]
-
-
-def up(x, n=1):
-    """n last places away from zero (towards it where n is negative)."""
-    return real(bits(x) + n)
-
-
-# ---- document 01's exp, ln, erfc and src/normal.rs, as in normal_test/vectors.py
-E = [1 / math.factorial(i) for i in range(14)]
-L = [1 / (2 * i + 1) for i in range(11)]
-H = 0.693147180369123816490
-J = 1.90821492927058770002e-10
-
-
-def exp(v):
-    if v != v:
-        return NAN
-    if v > 709:
-        return INF
-    if v < -708:
-        return 0.0
-    k = math.floor(v * 1.4426950408889634 + 0.5)
-    r = (v - k * H) - k * J
-    p = E[13]
-    for i in range(12, -1, -1):
-        p = p * r + E[i]
-    return p * math.ldexp(1.0, k)
-
-
-def ln(v):
-    if v != v:
-        return NAN
-    if v == 0:
-        return -INF
-    if v < 0:
-        return NAN
-    if v == INF:
-        return INF
-    m, e = math.frexp(v)
-    m, e = m * 2, e - 1
-    if m > 1.4142135623730951:
-        m, e = m / 2, e + 1
-    z = (m - 1) / (m + 1)
-    w = z * z
-    q = L[10]
-    for i in range(9, -1, -1):
-        q = q * w + L[i]
-    return e * H + ((2 * z) * q + e * J)
-
-
-def erfc(v):
-    if v != v:
-        return NAN
-    if v < 0:
-        return 2 - erfc(-v)
-    if v < 2:
-        g, total = v, v
-        for n in range(40):
-            g = (g * ((2 * v) * v)) / (2 * n + 3)
-            total = total + g
-        return 1 - (1.1283791670955126 * exp(-(v * v))) * total
-    c = v
-    for j in range(60, 0, -1):
-        c = v + (j / 2) / c
-    return (exp(-(v * v)) * 0.5641895835477563) / c
-
-
-def phi(x):
-    return 0.3989422804014327 * exp(-0.5 * x * x)
-
-
-def big_phi(x):
-    return 0.5 * erfc(-x / 1.4142135623730951)
+normal = transcriptions.of("normal_test")
+bits, real, up = normal.bits, normal.real, normal.up
+exp, ln, phi, big_phi = normal.exp, normal.ln, normal.pdf, normal.cdf
 
 
 # ---- src/options/greeks.rs, transcribed; an option is (kind, spot, strike, expiry, rate), kind 'C' or 'P'

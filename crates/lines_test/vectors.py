@@ -6,23 +6,17 @@
 The answers come from this file's own transcription of document 01's quote book and hexadecimal lines, over the transcriptions of the solver
 (greeks_test/vectors.py) and of the surface (surface_test/vectors.py), and from nothing of the product. src/main.rt says what a line of stdin is.
 """
-import importlib.util
 import math
 import pathlib
 import struct
+import sys
 
 HERE = pathlib.Path(__file__).resolve().parent
+sys.path.insert(0, str(HERE.parents[1] / "tests"))
+import transcriptions
 
-
-def transcription(crate):
-    spec = importlib.util.spec_from_file_location(crate, HERE.parent / crate / "vectors.py")
-    module = importlib.util.module_from_spec(spec)
-    spec.loader.exec_module(module)
-    return module
-
-
-surface = transcription("surface_test")
-model = transcription("greeks_test")
+surface = transcriptions.of("surface_test")
+model = transcriptions.of("greeks_test")
 NAN, INF = math.nan, math.inf
 
 

@@ -201,4 +201,5 @@ def main():
     print(count, "vectors")
 
 
-main()
+if __name__ == "__main__":
+    main()
