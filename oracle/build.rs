@@ -106,5 +106,6 @@ fn main() {
     fs::write(out, all).unwrap();
     // Ours, as `rt staticlib host` writes it; only the programs that name it are linked with it.
     println!("cargo:rustc-link-search=native={}", here.join("../target/staticlib").display());
+    println!("cargo:rustc-link-lib=static=host");
     println!("cargo:rerun-if-changed={}", here.join("../target/staticlib/libhost.a").display());
 }
