@@ -32,7 +32,7 @@ fn hear(
     lines::feed(state, part, strikes, expiries, volatilities, out)
 }
 
-// Writes the text, in one piece. A buffer for 4,096 lines is never short for a part of 4,096 bytes.
+// Writes the text, in one piece. A buffer for 4,096 lines is never short for a part of 4,096 bytes (`roomy` in lines/specs/Claims).
 fn write_text(text: Text, out: &[u8]) -> bool
     requires { ⌜ countOf text ≤ length (now out) ⌝ }
 {

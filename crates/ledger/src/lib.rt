@@ -1,4 +1,4 @@
-// The quote book on paper: its record and answers, what each call is to do (specs/), and demand 3's claim, proved for every model. crate `book` has
+// The quote book on paper: its record and answers, what each call is to do (specs/), and demand 3's claim, proved for every model. Crate `book` has
 // the calls.
 use greeks::Implied;
 

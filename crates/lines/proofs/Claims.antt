@@ -1,6 +1,8 @@
 -- The claims of specs/Claims.antt. Assumes nothing.
+use Prim.Native.Nat.{ℕ}
 use mathlib.Core.Path.{_≡_, refl, ap, _∙_}
 use mathlib.Core.List.{List, [], _∷_, map}
+use native.Mathlib.Omega.{arith}
 use borrow.Author.Tests.{eq-eqb, ne-eqb}
 use lib.Ieee.{Float}
 use Rattle.limits.specs.Checks.{none}
@@ -14,7 +16,7 @@ use Rattle.frames.specs.Session.{bookAfter}
 use Rattle.frames.specs.declared.Frame.the-variants.{Open, Read}
 use Rattle.frames.proofs.Claims.{streamed}
 use Rattle.lines.specs.Hear.{ledger, said, bookOf, opens, offers, blank, readOf, reads, hears}
-use Rattle.lines.specs.Claims.{lineOfOffer, Program}
+use Rattle.lines.specs.Claims.{Roomy, Parts, lineOfOffer, Program}
 use Rattle.lines.proofs.Numbers.{tabled}
 use Rattle.lines.proofs.Programs.{fed-within, finished-within, any-calls, one-call}
 
@@ -47,12 +49,17 @@ unfolding bookAfter hearAll
 tray l [] = refl
 tray l (o ∷ os) = ap (λ (z : Ledger). bookAfter hears z (map lineOfOffer os)) (one l o) ∙ tray (hear bsm l o) os
 
+roomy : (chunks : List (List ℕ)) → Parts 4096 chunks → Roomy 77824 chunks
+roomy [] h = omega arith
+roomy (chunk ∷ chunks) h = (omega (arith, h .0), roomy chunks (h .1))
+
 pub program : Program
 unfolding hears
 program =
     record {
       streamed = streamed hears;
       calls = any-calls;
+      roomy = roomy;
       at-once = one-call;
       within = λ s c chunk out. (fed-within s c chunk out, finished-within s c out);
       numbers = tabled;

@@ -40,6 +40,11 @@ abbrev pub Roomy : ℕ → List (List ℕ) → Type 0
 Roomy size [] = 19 ≤ size
 Roomy size (chunk ∷ chunks) = (19 * length chunk ≤ size) × Roomy size chunks
 
+-- Chunks of so many bytes at the most.
+abbrev pub Parts : ℕ → List (List ℕ) → Type 0
+Parts most [] = Unit {0}
+Parts most (chunk ∷ chunks) = (length chunk ≤ most) × Parts most chunks
+
 -- The line that says an offer.
 unfoldable pub lineOfOffer : Offer → Frame
 lineOfOffer (volatility strike expiry v) = Vol strike expiry v
@@ -52,6 +57,8 @@ pub record Program : Type 0 where
   -- And so it is of the calls as the program makes them, whatever columns and buffer held at first.
   pub calls : (c : Columns) (out : List ℕ) (chunks : List (List ℕ)) → Roomy (length out) chunks →
       called noState c out chunks ≡ output hears (ledger zeroBook c) (joined chunks)
+  -- The program reads 4,096 bytes at a time and lends 77,824: never too few.
+  pub roomy : (chunks : List (List ℕ)) → Parts 4096 chunks → Roomy 77824 chunks
   -- One call on the whole input writes the same.
   pub at-once : (l : Ledger) (input out : List ℕ) → 19 * length (lines input) ≤ length out → textOf (allAnswered l input out) ≡ output hears l input
   -- No call writes past the buffer.

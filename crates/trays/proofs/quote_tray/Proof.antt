@@ -68,8 +68,10 @@ returns-2 c =
     let l = lent (a .numbers .now) (a .solved .now) (columns (a .strikes .now) (a .expiries .now) (a .volatilities .now)) (buffers (a .strike-axis .now) (a .expiry-axis .now) (a .grid .now) (a .counts .now)) in
     let s = slices (a .prices .now) (a .puts .now) (a .ks .now) (a .ts .now) (a .vs .now) in
     let opened = ap outcomeOfOpening (sym (c .before .before .before .before .before .before .before .before .before .before .before .before .before .before .before .before .before .before .before .before .before .before .before .before .before .before .before .before .before .before .before .before .before .before .opened2 .given .1)) ∙ c .before .before .before .before .before .before .before .before .before .before .before .before .before .before .before .before .before .before .before .before .before .before .before .before .before .before .before .before .before .before .before .before .before .before .before .before .«open» .ensures in
-    quoted-tray (record { spot = a .spot; rate = a .rate }) s _ _ (l .numbers) (l .solved) (l .columns) (l .buffers) _ _ _ _ _ (c .before .before .before .before .before .before .before .before .build .result) _
-    (c .before .before .before .before .before .before .before .before .before .before .before .before .before .before .before .before .before .before .before .before .before .before .before .before .before .before .before .before .before .before .before .before .shortest .ensures) opened (c .before .before .before .before .before .before .before .before .before .before .before .before .before .before .before .before .before .before .before .before .before .before .before .before .before .before .hear-all .ensures) (c .before .before .before .before .before .before .before .before .build .ensures)
+    let H = c .before .before .before .before .before .before .before .before .before .before .before .before .before .before .before .before .before .before .before .before .before .before .before .before .before .before .hear-all in
+    let B = c .before .before .before .before .before .before .before .before .build in
+    quoted-tray (record { spot = a .spot; rate = a .rate }) s (c .before .before .before .before .before .before .before .before .before .before .before .before .before .before .before .before .before .before .before .before .before .before .before .before .before .before .before .before .before .before .before .before .shortest .result) _ (l .numbers) (l .solved) (l .columns) (l .buffers) (c .before .before .before .before .before .before .before .before .before .before .before .before .before .before .before .before .before .before .before .before .before .before .before .before .before .before .before .before .before .before .before .before .before .before .opened2 .given .0 .0) (H .result) (columns (H .last .1 .1 .1 .1 .1 .1 .1 .1 .1 .0) (H .last .1 .1 .1 .1 .1 .1 .1 .1 .1 .1 .0) (H .last .1 .1 .1 .1 .1 .1 .1 .1 .1 .1 .1 .0)) (H .last .1 .1 .1 .1 .1 .1 .1 .0) (H .last .1 .1 .1 .1 .1 .1 .1 .1 .0) (B .result) (buffers (B .last .1 .1 .1 .1 .0) (B .last .1 .1 .1 .1 .1 .0) (B .last .1 .1 .1 .1 .1 .1 .0) (B .last .1 .1 .1 .1 .1 .1 .1 .0))
+    (c .before .before .before .before .before .before .before .before .before .before .before .before .before .before .before .before .before .before .before .before .before .before .before .before .before .before .before .before .before .before .before .before .shortest .ensures) opened (H .ensures) (B .ensures)
 
 pub quote-tray-spec : {M : Type 1} → statement M
 quote-tray-spec =
