@@ -16,7 +16,6 @@ WORDS = {
     11: 'a model price less the market price is not finite',
     12: 'the market price is not between the prices at volatility 0.000001 and 10',
     13: 'no volatility was found in 50 rounds',
-    14: 'the volatility found is not in 0.000001 to 10',
     15: 'a surface buffer is short',
     16: 'the surface would have more than 64 strikes',
     17: 'the surface would have more than 32 expiries',

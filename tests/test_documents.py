@@ -1,10 +1,16 @@
-"""Holds docs/TRACE.md and README.md to what is in the tree. Run: python3 tests/test_documents.py"""
+"""Holds docs/TRACE.md, README.md and the lists of refusals to what is in the tree. Run: python3 tests/test_documents.py"""
 
 import re
+import sys
 import unittest
 from pathlib import Path
 
+sys.dont_write_bytecode = True
 ROOT = Path(__file__).resolve().parent.parent
+sys.path.insert(0, str(ROOT))
+
+from quoting import refusals
+
 TRACE = (ROOT / 'docs/TRACE.md').read_text()
 CRATES = [line.split(':')[0] for line in (ROOT / 'crates.txt').read_text().splitlines() if re.match(r'\w+:', line)]
 EDITS = {(file.parent.parent.name, file.stem) for file in ROOT.glob('crates/*/must-fail/*.edit')}
@@ -36,6 +42,49 @@ class Documents(unittest.TestCase):
         for name in CRATES:
             with self.subTest(crate=name):
                 self.assertTrue(f'`{name}`' in readme or name.endswith('_test'))
+
+
+class Refusals(unittest.TestCase):
+    """A refusal is listed in all places or in none: a number that comes or leaves is not forgotten in one of them."""
+
+    LISTED = re.findall(r'^## (\d+)\. ', (ROOT / 'docs/REFUSALS.md').read_text(), re.M)
+
+    def alike(self, where, numbers):
+        with self.subTest(where):
+            self.assertEqual(sorted(map(int, numbers)), sorted(map(int, self.LISTED)))
+
+    def test_the_lists_are_alike(self):
+        header = (ROOT / 'hosts/c/kitesettee.h').read_text()
+        rust = (ROOT / 'hosts/rust/src/refusal.rs').read_text()
+        names = dict(re.findall(r'^    (\w+) = (\d+),', rust, re.M))
+        self.alike('the enum of kitesettee.h', re.findall(r'KITE_\w+ = ([1-9]\d*)', header))
+        self.alike('kite_words', re.findall(r'case ([1-9]\d*): return', header))
+        self.alike('the enum of refusal.rs', names.values())
+        self.alike('Refusal::ALL', [names[name] for name in re.findall(r'^        Refusal::(\w+),', rust, re.M)])
+        self.alike('Refusal::words', [names[name] for name in re.findall(r'Refusal::(\w+) => "', rust)])
+        self.alike('the words of ./quote', refusals.WORDS)
+
+    def test_the_chains_give_the_listed_numbers(self):
+        given = {}
+        for file in sorted(ROOT.glob('crates/*/specs/*.antt')):
+            for number in re.findall(r'\bfirst (?:\(.*\)|\w+) (\d+)\b', file.read_text()):
+                given.setdefault(number, file.relative_to(ROOT))
+        self.assertEqual({number: file for number, file in given.items() if number not in self.LISTED}, {})
+        self.assertEqual(set(self.LISTED) - set(given), set())
+
+    def test_no_text_counts_up_to_a_number_that_left(self):
+        left = set(map(str, range(1, max(map(int, self.LISTED))))) - set(self.LISTED)
+        self.assertEqual(left, {'14'})
+        counted = re.compile(r'\b\d+(?: to |-| and | or |, )(\d+)\b(?!\.\d|,\d)')
+        for pattern in ('README.md', 'docs/REFUSALS.md', 'docs/QUOTE.md', 'docs/DIFFERENCES.md', 'hosts/c/*', 'hosts/rust/*/*.rs', 'quoting/refusals.py'):
+            for file in sorted(ROOT.glob(pattern)):
+                with self.subTest(file.name):
+                    self.assertEqual([found.group() for found in counted.finditer(file.read_text()) if found.group(1) in left], [])
+
+    def test_the_table_of_calls(self):
+        rows = re.findall(r'^\| [^|]*\| ([\d, :]+[^|]*) \|$', (ROOT / 'docs/REFUSALS.md').read_text(), re.M)
+        self.assertGreater(len(rows), 12)
+        self.assertEqual({number for row in rows for number in re.findall(r'\d+', row)}, set(self.LISTED))
 
 
 if __name__ == '__main__':

@@ -4,7 +4,7 @@
     python3 vectors.py            writes both beside itself
 
 The expected answers come from `Loop` below: the loop of the Rust's `implied_volatility` (src/options/greeks.rs) line by line in
-Python's floats, which are IEEE doubles, with document 01's checks 5, 11, 13 and 14 where 01 puts them and 21 before all. It does
+Python's floats, which are IEEE doubles, with document 01's checks 5, 11 and 13 where 01 puts them and 21 before all. It does
 not look at the Rattle code. Prices are recorded as bits, so that nothing is priced when the program runs.
 """
 import math
@@ -69,13 +69,12 @@ class Loop:
         return error
 
     def loop(self):
-        a = self.a
-        b = self.b
-        fa = self.f((yield a))
+        fa = self.f((yield self.a))
         self.fa = fa
-        fb = self.f((yield b))
+        fb = self.f((yield self.b))
         if fa * fb > 0.0:
             raise Refusal(12)
+        a, b = self.a, self.b
         c = a
         fc = fa
         d = b - a
@@ -96,8 +95,6 @@ class Loop:
             tol1 = 2.0 * EPSILON * abs(b) + 0.5 * TOL
             xm = 0.5 * (c - b)
             if abs(xm) <= tol1 or abs(fb) < TOL:
-                if not (1e-6 <= b <= 10.0):
-                    raise Refusal(14)
                 return (b, fb, c, fc)
             if abs(e) >= tol1 and abs(fa) > abs(fb):
                 s = ieee_div(fb, fa)
@@ -128,6 +125,8 @@ class Loop:
             # what a state holds between two prices; the error at b is not known yet
             self.a, self.b, self.c, self.fa, self.fb, self.fc, self.d, self.e = a, b, c, fa, 0.0, fc, d, e
             fb = self.f((yield b))
+            # the points are the state's, also where it was made by hand
+            a, b, c = self.a, self.b, self.c
         raise Refusal(13)
 
 
@@ -150,6 +149,7 @@ class Desk:
     def ask(self, volatility):
         s = self.solver
         self.asked = volatility
+        assert 1e-6 <= volatility <= 10.0
         self.told.append("ask %016x %d %d" % (bits(volatility), s.rounds, s.evaluations))
 
     def start(self, market):
@@ -168,7 +168,7 @@ class Desk:
         if s.ended:
             self.end("refused 21 0", ENDED)
             return
-        if s.market == 0.0 or s.rounds > 50 or s.evaluations > 52:
+        if s.market == 0.0 or s.rounds > 50 or s.evaluations > 52 or not all(1e-6 <= x <= 10.0 for x in (s.a, s.b, s.c)):
             self.end("refused 21 0", s.state())
             return
         try:
@@ -181,11 +181,14 @@ class Desk:
             self.end("found " + " ".join("%016x" % bits(x) for x in r.value) + " %d" % s.evaluations, ENDED)
 
     def hand(self, letter, value):
-        """A state made by hand: M its market price, R its rounds, E its evaluations."""
+        """A state made by hand: M its market price, A, B and C its points, R its rounds, E its evaluations."""
         s = self.solver
         if letter == "M":
             self.line("M", bits(value))
             s.market = value
+        elif letter in "ABC":
+            self.line(letter, bits(value))
+            setattr(s, letter.lower(), value)
         elif letter == "R":
             self.line("R", value)
             s.rounds = value
@@ -327,6 +330,36 @@ def main():
         d.hand(letter, value)
         d.feed(1.25)
         d.feed(1.25)
+    # so is a point not in 0.000001 to 10, whichever it is; in range again, it is answered
+    for letter in "ABC":
+        for value in (NAN, INF, -INF, 0.0, -0.0, -1.0, math.nextafter(1e-6, 0.0), math.nextafter(10.0, INF)):
+            for prices in ([], [0.5], [0.5, 3.0, 1.5]):
+                d.listed(1.0, prices)
+                kept = getattr(d.solver, letter.lower())
+                d.hand(letter, value)
+                d.feed(1.25)
+                d.hand(letter, kept)
+                d.feed(1.25)
+    # 21 comes before 11, 12 and 13
+    for letter in "ABC":
+        d.listed(1.0, [0.5, 3.0, 1.5])
+        d.hand(letter, 0.0)
+        d.feed(NAN)
+        d.listed(1.0, [0.5])
+        d.hand(letter, 11.0)
+        d.feed(0.25)
+        d.listed(1.0, [0.5, 3.0, 1.5])
+        d.hand(letter, NAN)
+        d.hand("R", 50)
+        d.feed(1.25)
+    # other points in range, the ends with them, are answered as they stand: before the first price, before the second, and in a round
+    for letter in "ABC":
+        for value in (1e-6, 10.0, 0.5, 3.0):
+            for prices in ([], [0.5], [0.5, 3.0, 1.5]):
+                d.listed(1.0, prices)
+                d.hand(letter, value)
+                for price in (0.25, 1.75, 0.5, 3.0, 1.25, 0.75):
+                    d.feed(price)
     # at the bounds it is answered: 13 with 50 rounds, one more round with 49, and the 53rd evaluation is the last
     for letter, value in (("R", 50), ("R", 49), ("E", 52), ("M", NAN)):
         d.listed(1.0, [0.5, 3.0, 1.5])

@@ -37,7 +37,7 @@ extern "C" {
 #define KITE_EXPIRIES 32   /* entries of an expiry axis */
 #define KITE_CELLS 2048    /* entries of a grid and of its counts */
 
-/* The refusals, in checking order: a call stops at the first of its checks that holds. */
+/* The refusals, in checking order: a call stops at the first of its checks that holds. 14 is not in use: no solved volatility is out of range. */
 enum kite_refusal {
     KITE_DONE = 0,
     KITE_SHORT_COLUMN = 1,       /* a lent quote column has fewer than 1,024 entries */
@@ -50,17 +50,16 @@ enum kite_refusal {
     KITE_EXPIRY = 8,             /* an expiry, in years, is not in 0.000001 to 100 */
     KITE_RATE = 9,               /* a rate is not in -1 to 1 */
     KITE_VOLATILITY = 10,        /* a volatility is not in 0.000001 to 10 */
-    KITE_SOLVER_NOT_FINITE = 11, /* a price minus the market price is not finite in the solver */
+    KITE_SOLVER_NOT_FINITE = 11, /* a price minus the market price is not finite in the solver; no call here gives it */
     KITE_NOT_BRACKETED = 12,     /* no volatility in 0.000001 to 10 gives the market price: both ends miss it on one side */
     KITE_NO_CONVERGENCE = 13,    /* the solver has used 50 rounds */
-    KITE_SOLVED_OUT_OF_RANGE = 14, /* the solver's answer is not in 0.000001 to 10 */
     KITE_SHORT_BUFFER = 15,      /* a surface buffer is short: see the sizes above */
     KITE_TOO_MANY_STRIKES = 16,  /* the strike axis would have more than 64 values */
     KITE_TOO_MANY_EXPIRIES = 17, /* the expiry axis would have more than 32 values */
     KITE_NO_SURFACE = 18,        /* no strikes or no expiries, or an axis not finite and strictly ascending */
     KITE_STRIKE_READ = 19,       /* a strike read is not-a-number or outside the strike axis */
     KITE_EXPIRY_READ = 20,       /* an expiry read is not-a-number or outside the expiry axis, or a cell that the read uses is a gap */
-    KITE_MALFORMED = 21          /* a line of the program, or a solver fed after its end: no function here gives it */
+    KITE_MALFORMED = 21          /* a line of the program, or a solver state that cannot be used: no function here gives it */
 };
 
 /* A refusal in words: what to show beside its number. "done" of 0; of a number that is none of the refusals, "unknown refusal". */
@@ -81,14 +80,13 @@ static inline const char *kite_words(uint64_t number)
     case 11: return "a price minus the market price is not finite";
     case 12: return "no volatility in 0.000001 to 10 gives the market price";
     case 13: return "the solver has used 50 rounds";
-    case 14: return "the solved volatility is not in 0.000001 to 10";
     case 15: return "a surface buffer is short";
     case 16: return "the strike axis would have more than 64 values";
     case 17: return "the expiry axis would have more than 32 values";
     case 18: return "the surface is empty, or an axis is not finite and strictly ascending";
     case 19: return "the strike read is outside the surface";
     case 20: return "the expiry read is outside the surface, or the surface has a gap there";
-    case 21: return "a malformed line, or a solver fed after its end";
+    case 21: return "a malformed line, or a solver state that cannot be used";
     default: return "unknown refusal";
     }
 }
@@ -121,10 +119,11 @@ uint64_t kite_bsm_greeks(bool put, double spot, double strike, double expiry, do
 
 /*
  * The volatility that gives a market price, by Brent's method between 0.000001 and 10. Writes to values the volatility, its error (its price
- * minus the market's), the opposing point c and c's error, and to *evaluations how many prices were computed. The evidence is exact: the
- * error is below 0.000001, or volatility and c lie within 0.00000101 of each other and their prices bracket the market's.
- * Refusals: 5 market price, 6 spot, 7 strike, 8 expiry, 9 rate, with 0 evaluations; 11 to 14 from the solver, with the evaluations made.
- * values is then four times 0.0.
+ * minus the market's), the opposing point c and c's error, and to *evaluations how many prices were computed. Volatility and c lie in
+ * 0.000001 to 10. The evidence is exact: the error is below 0.000001, or volatility and c lie within 0.00000101 of each other and their
+ * prices bracket the market's.
+ * Refusals: 5 market price, 6 spot, 7 strike, 8 expiry, 9 rate, with 0 evaluations; 12 and 13 from the solver, with the evaluations made.
+ * values is then four times 0.0. (11 is checked too and never holds: the model's prices are finite.)
  */
 uint64_t kite_implied_volatility(bool put, double market, double spot, double strike, double expiry, double rate, double values[4], uint64_t *evaluations);
 
@@ -137,7 +136,7 @@ uint64_t kite_implied_volatility(bool put, double market, double spot, double st
  * ignored), with strike ks[i], expiry ts[i] and value vs[i]. The list is as long as the shortest of the seven slices prices, puts, ks, ts,
  * vs, numbers and solved.
  *
- * Written: numbers[i], 0 where offer i was accepted, else its refusal (1, 3, 4, 5, 7, 8, 10, or 11 to 14 from its solver); solved[i], the
+ * Written: numbers[i], 0 where offer i was accepted, else its refusal (1, 3, 4, 5, 7, 8, 10, or 12 and 13 from its solver); solved[i], the
  * volatility accepted, else 0.0; to the columns strikes, expiries and volatilities (at least 1,024 entries each) the accepted quotes in
  * order, nothing past them; to record kept, refused, heard and evaluations, where kept + refused = heard; the surface and lengths as
  * kite_build does.

@@ -312,7 +312,7 @@ pub fn model(r: &mut Random, family: Family) -> (f64, crate::notes::Model) {
     let (size, other) = (r.magnitude(1e-9, 1e9), r.magnitude(1e-9, 1e9));
     let power = r.pick(&[1, 3, 5, 9, 25]);
     let mut noise = Random(r.next());
-    let shape = r.below(8);
+    let shape = r.below(9);
     let broken = family == Damaged;
     let mut calls = 0;
     let error = move |v: f64| -> f64 {
@@ -332,6 +332,8 @@ pub fn model(r: &mut Random, family: Family) -> (f64, crate::notes::Model) {
             // One end far, the other near: interpolation crawls.
             5 => if calls == 1 { -size * 1e9 } else { 0.000002 + size * (11.0 - v) * noise.uniform(0.5, 1.0).min(1.0) },
             6 => size * (x.abs().sqrt() * sign) + noise.uniform(-1.0, 1.0) * other * 1e-6,
+            // Errors of any size: the quotients of an interpolation overflow, underflow and vanish.
+            7 => sign * noise.magnitude(1e-6, 1e307),
             _ => if calls == 1 { -size } else { size / f64::from(calls) },
         }
     };

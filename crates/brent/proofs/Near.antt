@@ -34,19 +34,19 @@ bottom = 2361183241434822606848
 unfoldable reach : Float
 reach = decimal top bottom
 
-abbrev half : Float
+abbrev pub half : Float
 half = decimal 1 2
 
-abbrev slope : Float
+abbrev pub slope : Float
 slope = decimal 2 1 ⊗ EPSILON
 
-abbrev floor : Float
+abbrev pub floor : Float
 floor = half ⊗ TOL
 
-abbrev low : Float
+abbrev pub low : Float
 low = lowestVolatility
 
-abbrev high : Float
+abbrev pub high : Float
 high = highestVolatility
 
 reach-positive : T (positive reach)
@@ -81,11 +81,11 @@ slope-high : T (positive (slope ⊗ high))
 unfolding round mul
 slope-high = tt
 
-least-positive : T (positive (slope ⊗ low ⊕ floor))
+pub least-positive : T (positive (slope ⊗ low ⊕ floor))
 unfolding round mul add
 least-positive = tt
 
-most-positive : T (positive (slope ⊗ high ⊕ floor))
+pub most-positive : T (positive (slope ⊗ high ⊕ floor))
 unfolding round mul add
 most-positive = tt
 
@@ -98,7 +98,7 @@ out-of-reach : T (not (half ⊗ reach ≼ slope ⊗ high ⊕ floor))
 unfolding reach round mul add le
 out-of-reach = tt
 
-tolerance-at : (b : Float) → T (positive b) → tolerance b ≡ slope ⊗ b ⊕ floor
+pub tolerance-at : (b : Float) → T (positive b) → tolerance b ≡ slope ⊗ b ⊕ floor
 unfolding tolerance
 tolerance-at b p = ap (λ (z : Float). slope ⊗ z ⊕ floor) (positive-magnitude b p)
 
@@ -113,13 +113,16 @@ module _ (b : Float) (p : T (positive b)) (l : T (low ≼ b)) (h : T (b ≼ high
   slope-b : T (positive (slope ⊗ b))
   slope-b = between (slope ⊗ low) (slope ⊗ b) (slope ⊗ high) slope-low slope-high above-low below-high
 
-  tolerance-most : T (slope ⊗ b ⊕ floor ≼ slope ⊗ high ⊕ floor)
-  tolerance-most = add-mono binary64 (slope ⊗ b) (slope ⊗ high) floor floor slope-b slope-high floor-positive floor-positive below-high (le-self floor floor-positive)
+  pub tolerance-most : T (slope ⊗ b ⊕ floor ≼ slope ⊗ high ⊕ floor)
+  tolerance-most = add-mono binary64 (slope ⊗ b) (slope ⊗ high) floor floor slope-b slope-high floor-positive floor-positive below-high
+      (le-self floor floor-positive)
 
-  tolerance-positive : T (positive (slope ⊗ b ⊕ floor))
-  tolerance-positive =
-      between (slope ⊗ low ⊕ floor) (slope ⊗ b ⊕ floor) (slope ⊗ high ⊕ floor) least-positive most-positive
-      (add-mono binary64 (slope ⊗ low) (slope ⊗ b) floor floor slope-low slope-b floor-positive floor-positive above-low (le-self floor floor-positive)) tolerance-most
+  pub tolerance-least : T (slope ⊗ low ⊕ floor ≼ slope ⊗ b ⊕ floor)
+  tolerance-least = add-mono binary64 (slope ⊗ low) (slope ⊗ b) floor floor slope-low slope-b floor-positive floor-positive above-low
+      (le-self floor floor-positive)
+
+  pub tolerance-positive : T (positive (slope ⊗ b ⊕ floor))
+  tolerance-positive = between (slope ⊗ low ⊕ floor) (slope ⊗ b ⊕ floor) (slope ⊗ high ⊕ floor) least-positive most-positive tolerance-least tolerance-most
 
   -- no difference above 0.00000101 comes within the tolerance
   far : (g z : ℕ) → 0 < z → top * z ≤ g * bottom → T (half ⊗ round binary64 false g z ≼ slope ⊗ b ⊕ floor) → ⊥
@@ -137,21 +140,22 @@ module _ (b : Float) (p : T (positive b)) (l : T (low ≼ b)) (h : T (b ≼ high
       go (fin true m e) a u t = a
       go (fin false m e) a u t =
           let r = fin false m e in
-          let v : T (half ⊗ reach ≼ half ⊗ r) = mul-mono binary64 half half reach r half-positive half-positive reach-positive a (le-self half half-positive) u in
+          let v : T (half ⊗ reach ≼ half ⊗ r) = mul-mono binary64 half half reach r half-positive half-positive reach-positive a
+          (le-self half half-positive) u in
           let q = between (half ⊗ reach) (half ⊗ r) (slope ⊗ b ⊕ floor) half-reach tolerance-positive v t in
           T-not (half ⊗ reach ≼ slope ⊗ high ⊕ floor) out-of-reach
           (le-trans-positive (half ⊗ reach) (slope ⊗ b ⊕ floor) (slope ⊗ high ⊕ floor) half-reach tolerance-positive most-positive
           (le-trans-positive (half ⊗ reach) (half ⊗ r) (slope ⊗ b ⊕ floor) half-reach q tolerance-positive v t) tolerance-most)
 
 -- ---- |xm| is half of one rounding of the exact distance
+pub is-half : fin false 1 (negsuc 0) ≡ half
+is-half = unfold round in refl
+
 middle-is : (t : Bool) (n : ℕ) (d : ℤ) (s : Bool) (m : ℕ) (e : ℤ)
     → magnitude (middle (fin t n d) (fin s m e)) ≡ half ⊗ round binary64 false (apart s (m * up e * down d) t (n * up d * down e)) (down e * down d)
 unfolding middle
 middle-is t n d s m e = halves (fin s m e ⊖ fin t n d) ∙ ap (λ (z : Float). half ⊗ z) (magnitude-sub binary64 s m e t n d)
   where
-    is-half : fin false 1 (negsuc 0) ≡ half
-    is-half = unfold round in refl
-
     halves : (x : Float) → magnitude (half ⊗ x) ≡ half ⊗ magnitude x
     halves x = subst (λ (z : Float). magnitude (z ⊗ x) ≡ z ⊗ magnitude x) is-half (magnitude-mul binary64 1 (negsuc 0) x)
 
@@ -165,10 +169,13 @@ reach-units : units (decimal 101 100000000) * bottom ≡ top * 2 ^ 1074
 unfolding round
 reach-units = refl
 
-pub near : (b c : Float) → T (fits binary64 b) → T (fits binary64 c) → isVolatility b ≡ true → finite c ≡ true → magnitude (middle b c) ≼ tolerance b ≡ true → distance b c ≤ units (decimal 101 100000000)
-near b c f g r w k = go b c f g (volatility-positive b r) (at-least low high b r) (at-most low high b r) (holds (finite c) w) (holds (magnitude (middle b c) ≼ tolerance b) k)
+pub near : (b c : Float) → T (fits binary64 b) → T (fits binary64 c) → isVolatility b ≡ true → finite c ≡ true → magnitude (middle b c) ≼ tolerance b ≡ true
+    → distance b c ≤ units (decimal 101 100000000)
+near b c f g r w k = go b c f g (volatility-positive b r) (at-least low high b r) (at-most low high b r) (holds (finite c) w)
+    (holds (magnitude (middle b c) ≼ tolerance b) k)
   where
-    go : (b c : Float) → T (fits binary64 b) → T (fits binary64 c) → T (positive b) → T (low ≼ b) → T (b ≼ high) → T (finite c) → T (magnitude (middle b c) ≼ tolerance b) → distance b c ≤ units (decimal 101 100000000)
+    go : (b c : Float) → T (fits binary64 b) → T (fits binary64 c) → T (positive b) → T (low ≼ b) → T (b ≼ high) → T (finite c)
+        → T (magnitude (middle b c) ≼ tolerance b) → distance b c ≤ units (decimal 101 100000000)
     go nan c f g p l h w k = absurd p
     go (inf t) c f g p l h w k = absurd p
     go (fin t n d) nan f g p l h w k = absurd w
@@ -178,9 +185,11 @@ near b c f g r w k = go b c f g (volatility-positive b r) (at-least low high b r
         let gap = apart s (m * up e * down d) t (n * up d * down e) in
         let z = down e * down d in
         let within : T (half ⊗ round binary64 false gap z ≼ slope ⊗ b ⊕ floor) =
-        subst (λ (x : Float). T (half ⊗ round binary64 false gap z ≼ x)) (tolerance-at b p) (subst (λ (x : Float). T (x ≼ tolerance b)) (middle-is t n d s m e) k) in
+        subst (λ (x : Float). T (half ⊗ round binary64 false gap z ≼ x)) (tolerance-at b p)
+        (subst (λ (x : Float). T (x ≼ tolerance b)) (middle-is t n d s m e) k) in
         let close : gap * bottom ≤ top * z =
         le-of-suc-le-suc (lt-of-not-le (λ (o : top * z < gap * bottom). far b p l h gap z (mul-pos (down-pos e) (down-pos d)) (le-of-lt o) within)) in
         subst (λ (x : ℕ). x ≤ units (decimal 101 100000000)) (sym (distance-is t n d s m e ∙ apart-turns t (units b) s (units (fin s m e))))
-        (fewer s t (m * up e) (down e) (n * up d) (down d) (units (fin s m e)) (units b) (2 ^ 1074) top bottom (units (decimal 101 100000000)) (down-pos e) (down-pos d) (lit< tt)
+        (fewer s t (m * up e) (down e) (n * up d) (down d) (units (fin s m e)) (units b) (2 ^ 1074) top bottom (units (decimal 101 100000000)) (down-pos e)
+        (down-pos d) (lit< tt)
         (units-exact s m e g) (units-exact t n d f) reach-units close)

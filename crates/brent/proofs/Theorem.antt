@@ -1,16 +1,18 @@
 -- The claim of specs/Claim: each field is read off what the invariant says of the last reply. Assumes nothing.
 use mathlib.Core.Path.{_≡_, refl, sym, ap, _∙_, subst}
-use mathlib.Core.List.{List, [], map, List·Memᴰ, List·Memᴰ·cases-cons, List·Memᴰ·not-nil}
+use mathlib.Core.List.{List, map, List·Memᴰ, List·Memᴰ·cases-cons, List·Memᴰ·not-nil}
 use mathlib.Core.Logic.{_⊎_, inl, inr}
 use Prim.Native.Nat.{ℕ, zero, suc, _+_, _≤_, _<_}
 use native.Mathlib.Omega.{arith}
-use mathlib.Core.Bool.{true, false}
-use lib.Dec.{lit≤}
+use mathlib.Core.Bool.{Bool, true, false}
+use lib.Dec.{lit≤, eqb}
 use lib.ListN.{length}
-use borrow.Author.Tests.{leb-true}
+use borrow.Author.Tests.{leb-true, eqb-true, le-leb}
 use lib.Ieee.{Float, eq, round}
-use Rattle.floats.specs.Operators.{_⊖_}
-use Rattle.floats.proofs.Tests.{clash}
+use Rattle.floats.specs.Operators.{decimal, _⊖_, _⊗_, _≺_}
+use Rattle.floats.specs.Values.{finite}
+use Rattle.floats.proofs.Tests.{split, clash, and-left, and-right}
+use Rattle.limits.specs.Ranges.{isVolatility}
 use Rattle.limits.specs.Checks.{first}
 use Rattle.limits.specs.Outcome.{Outcome, done, refused}
 use Rattle.brent.specs.declared.Points.{Points}
@@ -18,21 +20,23 @@ use Rattle.brent.specs.declared.Solver.{Solver}
 use Rattle.brent.specs.declared.Answer.{Answer}
 use Rattle.brent.specs.declared.Answer.the-variants.{Ask, Found, Refused}
 use Rattle.brent.specs.Outcome.{Values, Reply, asking, ended, zeros, outcome}
-use Rattle.brent.specs.Feed.{over, fresh, refuse, ask, find, isSpent, feedNumber, start, feed}
+use Rattle.brent.specs.Feed.{over, fresh, refuse, ask, find, isUnusable, isUnbracketed, feedNumber, start, feed}
 use Rattle.brent.specs.Run.{Tried, Run, tryNext, feedAll, feedWith, run, runWith}
-use Rattle.brent.specs.Claim.{Obtained, evaluationsOf, Given, five, eleven, twelve, thirteen, fourteen, Blank, Ran, Modelled, Fed, Claim}
-use Rattle.brent.proofs.Cases.{unspent, feed-by}
-use Rattle.brent.proofs.Invariant.{Live, lower, upper, later, Good, run-good}
+use Rattle.brent.specs.Claim.{Obtained, evaluationsOf, Given, five, eleven, twelve, thirteen, Blank, AllZero, Unusable, Unbracketed, Ran}
+use Rattle.brent.specs.Claim.{Modelled, OfFeed, by-21, by-11, by-12, by-13, Fed, Claim}
+use Rattle.brent.proofs.Cases.{before, ready, count, usable, unusable-test, unusable-of, number-11, number-12, number-13, feed-by}
+use Rattle.brent.proofs.Invariant.{Live, lower, upper, later, Good, live-in, run-good, run-in}
+use Rattle.brent.proofs.Range.{In, in-at, placed-in, ready-in, advance-in}
 
 -- ---- a reply of a run
-given-below : {k n : ℕ} → Given k n → (k < 15) × (n ≤ 52)
+given-below : {k n : ℕ} → Given k n → (k < 14) × (n ≤ 52)
 given-below five = (lit≤ tt, lit≤ tt)
 given-below (eleven a b) = (lit≤ tt, b)
 given-below twelve = (lit≤ tt, lit≤ tt)
 given-below thirteen = (lit≤ tt, lit≤ tt)
-given-below (fourteen a b) = (lit≤ tt, omega arith)
 
-live-count : (market v : Float) (h : List Tried) (s : Solver) → Live market h v s → (s .evaluations ≡ length h) × (length h ≤ 51) × (2 ≤ length h → length h ≡ s .rounds + 1)
+live-count : (market v : Float) (h : List Tried) (s : Solver) → Live market h v s
+    → (s .evaluations ≡ length h) × (length h ≤ 51) × (2 ≤ length h → length h ≡ s .rounds + 1)
 unfolding fresh
 live-count market v h s (lower e) = (sym e, omega arith, λ l. omega arith)
 live-count market v h s (upper error e k) = (sym e, omega arith, λ l. omega arith)
@@ -44,25 +48,30 @@ reply-count market h (asking v s) g = let l = live-count market v h s (g .1) in 
 reply-count market h (ended (done x) s) g = let l = g .2 .at-most in (g .1, omega arith)
 reply-count market h (ended (refused k x) s) g = (unfold zeros in ap (λ (y : Values). y .evaluations) (g .1), given-below (g .2) .1)
 
-when-spent : (s : Solver) (price : Float) → isSpent s ≡ true → feed s price ≡ ended (refused 21 (zeros 0)) s
+handed-back : (s : Solver) (price : Float) → isUnusable s ≡ true → feed s price ≡ ended (refused 21 (zeros 0)) s
 unfolding feed feedNumber first
-when-spent s price h = simp h
+handed-back s price h = simp h
 
-over-spent : isSpent over ≡ true
-unfolding isSpent over eq round
-over-spent = refl
+over-unusable : isUnusable over ≡ true
+unfolding isUnusable over eq round
+over-unusable = refl
 
-ran : (market : Float) (r : Run) → Good market (r .tried) (r .reply) → Ran market r
-ran market r g =
+ran : (market : Float) (r : Run) → Good market (r .tried) (r .reply) → ((t : Tried) → List·Memᴰ t (r .tried) → isVolatility (t .at) ≡ true) → Ran market r
+ran market r g i =
     record {
       counted = reply-count market (r .tried) (r .reply) g .0;
       few = reply-count market (r .tried) (r .reply) g .1;
       rounds = λ {v} {s} e l. live-count market v (r .tried) s (at e .1) .2 l;
+      tried-in-range = λ {t} m. i t m;
+      asks-in-range = λ {v} {s} e. live-in market v (r .tried) s (at e .1) .0;
+      points-in-range = λ {v} {x} {s} e k. in-at (s .points) (live-in market v (r .tried) s (at e .1) .1) k;
       refusal = λ {number} {x} {s} e. refused-with number x (at e .1) (at e .2);
       started = λ e. at e .3 refl;
+      only-11 = λ e. at e .4 refl;
       never-21 = λ e. let l = given-below (at e .2) .0 in omega arith;
       ends = λ {o} {s} e. ended-over o s (at e);
-      after = λ {o} {s} e price. subst (λ (t : Solver). feed t price ≡ ended (refused 21 (zeros 0)) t) (sym (ended-over o s (at e))) (when-spent over price over-spent);
+      after = λ {o} {s} e price. subst (λ (t : Solver). feed t price ≡ ended (refused 21 (zeros 0)) t) (sym (ended-over o s (at e)))
+          (handed-back over price over-unusable);
       success = λ e. at e .2;
     }
   where
@@ -73,7 +82,8 @@ ran market r g =
     ended-over (done x) s k = k .0
     ended-over (refused n x) s k = k .0
 
-    refused-with : (number : ℕ) (x : Values) → x ≡ zeros (length (r .tried)) → Given number (length (r .tried)) → Given number (x .evaluations) × (x ≡ zeros (x .evaluations))
+    refused-with : (number : ℕ) (x : Values) → x ≡ zeros (length (r .tried)) → Given number (length (r .tried))
+        → Given number (x .evaluations) × (x ≡ zeros (x .evaluations))
     refused-with number x z k =
         let e : x .evaluations ≡ length (r .tried) = unfold zeros in ap (λ (y : Values). y .evaluations) z in
         (subst (Given number) (sym e) k, z ∙ ap zeros (sym e))
@@ -118,7 +128,7 @@ module _ (price : Float → Float) where
     with-good = subst (λ (r : Run). Good market (r .tried) (r .reply)) (sym as-list) (run-good market (obtained (with-run .tried)))
 
     with-ran : Ran market with-run
-    with-ran = ran market with-run with-good
+    with-ran = ran market with-run with-good (λ t m. run-in market (obtained (with-run .tried)) (subst (λ (r : Run). List·Memᴰ t (r .tried)) as-list m))
 
     finished : (r : Reply) → with-run .reply ≡ r → (o : Outcome Values) × (r ≡ ended o over)
     finished (asking v s) e =
@@ -151,49 +161,173 @@ number-of (asking v s) = 0
 number-of (ended (done x) s) = 0
 number-of (ended (refused k x) s) = k
 
-record Answered (s : Solver) (r : Reply) : Type 0 where
-  spent : number-of r ≡ 21 → (isSpent s ≡ true) × (r ≡ ended (refused 21 (zeros 0)) s)
-  left : isSpent s ≡ false → {o : Outcome Values} {t : Solver} → r ≡ ended o t → t ≡ over
-  after : number-of r ≡ 13 → s .rounds ≡ 50
+-- what each number of an answer tells
+record Told (s : Solver) (price : Float) (k : ℕ) : Type 0 where
+  eleven : k ≡ 11 → finite (price ⊖ s .market) ≡ false
+  twelve : k ≡ 12 → isUnbracketed s (price ⊖ s .market) ≡ true
+  thirteen : k ≡ 13 → s .rounds ≡ 50
 
-refused-answer : (s : Solver) (k n : ℕ) → (k ≡ 21 → ⊥) → (k ≡ 13 → s .rounds ≡ 50) → Answered s (refuse k n)
-unfolding refuse
-refused-answer s k n p q = record { spent = λ e. absurd (p e); left = λ h e. cc; after = q }
+-- a refusal has one of the four numbers
+abbrev Known : Reply → Type 0
+Known (asking v s) = Unit
+Known (ended (done x) s) = Unit
+Known (ended (refused k x) s) = OfFeed k
 
-asked-answer : (s : Solver) (market : Float) (p : Points) (r n : ℕ) → Answered s (ask market p r n)
+not-14 : {k : ℕ} → OfFeed k → k ≡ 14 → ⊥
+not-14 by-21 e = omega arith
+not-14 by-11 e = omega arith
+not-14 by-12 e = omega arith
+not-14 by-13 e = omega arith
+
+record Answered (s : Solver) (price : Float) (r : Reply) : Type 0 where
+  back : number-of r ≡ 21 → (isUnusable s ≡ true) × (r ≡ ended (refused 21 (zeros 0)) s)
+  left : isUnusable s ≡ false → {o : Outcome Values} {t : Solver} → r ≡ ended o t → t ≡ over
+  told : Told s price (number-of r)
+  known : Known r
+
+module _ (s : Solver) (price : Float) where
+  tells-nothing : (k : ℕ) → (k ≡ 11 → ⊥) → (k ≡ 12 → ⊥) → (k ≡ 13 → ⊥) → Told s price k
+  tells-nothing k p q r = record { eleven = λ e. absurd (p e); twelve = λ e. absurd (q e); thirteen = λ e. absurd (r e) }
+
+  refused-answer : (k n : ℕ) → (k ≡ 21 → ⊥) → OfFeed k → Told s price k → Answered s price (refuse k n)
+  unfolding refuse
+  refused-answer k n p f q = record { back = λ e. absurd (p e); left = λ h e. cc; told = q; known = f }
+
+  asked-answer : (market : Float) (p : Points) (r n : ℕ) → Answered s price (ask market p r n)
+  unfolding ask
+  asked-answer market p r n =
+      record {
+        back = λ e. absurd (omega arith);
+        left = λ h e. absurd (let z : _≡_ {A = ℕ} 0 1 = cc in omega arith);
+        told = tells-nothing 0 (λ e. omega arith) (λ e. omega arith) (λ e. omega arith);
+        known = tt;
+      }
+
+  found-answer : (p : Points) (n : ℕ) → Answered s price (find p n)
+  unfolding find
+  found-answer p n =
+      record {
+        back = λ e. absurd (omega arith);
+        left = λ h e. cc;
+        told = tells-nothing 0 (λ e. omega arith) (λ e. omega arith) (λ e. omega arith);
+        known = tt;
+      }
+
+  answered : Answered s price (feed s price)
+  answered =
+      let n = s .evaluations + 1 in
+      feed-by s price (Answered s price)
+      (record {
+        at-21 = λ h. record {
+          back = λ e. (h, refl);
+          left = λ k e. clash h k;
+          told = tells-nothing 21 (λ e. omega arith) (λ e. omega arith) (λ e. omega arith);
+          known = by-21;
+        };
+        at-11 = λ h1 h2. refused-answer 11 n (λ e. omega arith) by-11
+            (record { eleven = λ e. h2; twelve = λ e. absurd (omega arith); thirteen = λ e. absurd (omega arith) });
+        at-12 = λ h1 h2 h3. refused-answer 12 n (λ e. omega arith) by-12
+            (record { eleven = λ e. absurd (omega arith); twelve = λ e. h3; thirteen = λ e. absurd (omega arith) });
+        at-13 = λ h1 h2 h3 h4. refused-answer 13 n (λ e. omega arith) by-13
+            (record {
+              eleven = λ e. absurd (omega arith);
+              twelve = λ e. absurd (omega arith);
+              thirteen = λ e. (let l = usable s h1 .rounds in let g = leb-true 50 (s .rounds) h4 in omega arith);
+            });
+        at-end = λ h1 h2 h3 h4 h5. asked-answer _ _ _ _;
+        at-answer = λ h1 h2 h3 h4 h5 h6. found-answer _ _;
+        at-round = λ h1 h2 h3 h4 h5 h6. asked-answer _ _ _ _;
+      })
+
+-- a reply that asks or answers does so in range
+abbrev Ranged : Reply → Type 0
+Ranged (asking v t) = (isVolatility v ≡ true) × In (t .points)
+Ranged (ended (done x) t) = (isVolatility (x .volatility) ≡ true) × (isVolatility (x .c) ≡ true)
+Ranged (ended (refused k x) t) = Unit
+
+asked-in : (market : Float) (p : Points) (r n : ℕ) → In p → Ranged (ask market p r n)
 unfolding ask
-asked-answer s market p r n = record { spent = λ e. absurd (omega arith); left = λ h e. absurd (let z : _≡_ {A = ℕ} 0 1 = cc in omega arith); after = λ e. absurd (omega arith) }
+asked-in market p r n h = (h .b, h)
 
-found-answer : (s : Solver) (p : Points) (n : ℕ) → Answered s (find p n)
+found-in : (p : Points) (n : ℕ) → In p → Ranged (find p n)
 unfolding find
-found-answer s p n = record { spent = λ e. absurd (omega arith); left = λ h e. cc; after = λ e. absurd (omega arith) }
+found-in p n h = (h .b, h .c)
 
-answered : (s : Solver) (price : Float) → Answered s (feed s price)
-answered s price =
-    let n = s .evaluations + 1 in
-    feed-by s price (Answered s)
+feed-ranged : (s : Solver) (price : Float) → Ranged (feed s price)
+unfolding refuse
+feed-ranged s price =
+    feed-by s price Ranged
     (record {
-      at-21 = λ h. record { spent = λ e. (h, refl); left = λ k e. clash h k; after = λ e. absurd (omega arith) };
-      at-11 = λ h1 h2. refused-answer s 11 n (λ e. omega arith) (λ e. absurd (omega arith));
-      at-12 = λ h1 h2 h3. refused-answer s 12 n (λ e. omega arith) (λ e. absurd (omega arith));
-      at-13 = λ h1 h2 h3 h4. refused-answer s 13 n (λ e. omega arith) (λ e. let l = unspent s h1 .0 in let g = leb-true 50 (s .rounds) h4 in omega arith);
-      at-14 = λ h1 h2 h3 h4 h5. refused-answer s 14 n (λ e. omega arith) (λ e. absurd (omega arith));
-      at-end = λ h1 h2 h3 h4 h5. asked-answer s _ _ _ _;
-      at-answer = λ h1 h2 h3 h4 h5 h6 h7. found-answer s _ _;
-      at-round = λ h1 h2 h3 h4 h5 h6. asked-answer s _ _ _ _;
+      at-21 = λ h. tt;
+      at-11 = λ h1 h2. tt;
+      at-12 = λ h1 h2 h3. tt;
+      at-13 = λ h1 h2 h3 h4. tt;
+      at-end = λ h1 h2 h3 h4 h5. asked-in (s .market) (before s price) (s .rounds) (count s price) (placed h1);
+      at-answer = λ h1 h2 h3 h4 h5 h6. found-in (ready s price) (count s price) (ready-in (before s price) (placed h1));
+      at-round = λ h1 h2 h3 h4 h5 h6. asked-in (s .market) _ (s .rounds + 1) (count s price)
+          (advance-in (ready s price) (ready-in (before s price) (placed h1)) h6);
     })
+  where
+    placed : isUnusable s ≡ false → In (before s price)
+    placed h = placed-in (s .points) (s .evaluations) (price ⊖ s .market) (usable s h .points)
+
+module _ (s : Solver) (price : Float) where
+  bracket-test : Unbracketed s price → isUnbracketed s (price ⊖ s .market) ≡ true
+  unfolding isUnbracketed
+  bracket-test u = simp (u .second, u .above)
+
+  unbracketed : isUnbracketed s (price ⊖ s .market) ≡ true → Unbracketed s price
+  unfolding isUnbracketed
+  unbracketed h =
+      let one = eqb (s .evaluations) 1 in
+      let above = decimal 0 1 ≺ s .points .fa ⊗ (price ⊖ s .market) in
+      record { second = eqb-true (s .evaluations) 1 (and-left one above h); above = and-right one above h }
+
+  at-11 : isUnusable s ≡ false → finite (price ⊖ s .market) ≡ false → feed s price ≡ refuse 11 (s .evaluations + 1)
+  unfolding feed
+  at-11 h1 h2 = simp (number-11 s price h1 h2)
+
+  at-12 : isUnusable s ≡ false → finite (price ⊖ s .market) ≡ true → Unbracketed s price → feed s price ≡ refuse 12 (s .evaluations + 1)
+  unfolding feed
+  at-12 h1 h2 u = simp (number-12 s price h1 h2 (bracket-test u))
+
+  at-13 : isUnusable s ≡ false → finite (price ⊖ s .market) ≡ true → (Unbracketed s price → ⊥) → s .rounds ≡ 50 → feed s price ≡ refuse 13 (s .evaluations + 1)
+  unfolding feed
+  at-13 h1 h2 u r =
+      let h3 = split (isUnbracketed s (price ⊖ s .market)) (λ h. absurd (u (unbracketed h))) (λ h. h) in
+      simp (number-13 s price h1 h2 h3 (le-leb 50 (s .rounds) (omega arith)))
 
 fed : (s : Solver) (price : Float) → Fed s price
 fed s price =
     let k = answered s price in
     record {
-      when-spent = when-spent s price;
-      only-spent = λ e. k .spent (ap number-of e) .0;
-      handed-back = λ {x} {t} e. back x t (sym (k .spent (ap number-of e) .1) ∙ e);
-      ends = λ h e. k .left h e;
-      after-50 = λ e. k .after (ap number-of e);
+      when-21 = λ u. handed-back s price (unusable-test s u);
+      only-21 = λ e. unusable-of s (k .back (ap number-of e) .0);
+      handed-back = λ {x} {t} e. back x t (sym (k .back (ap number-of e) .1) ∙ e);
+      ends = λ h e. k .left (lets-through h) e;
+      asks-in-range = λ {v} {t} e. asked e .0;
+      points-in-range = λ {v} {x} {t} e p. in-at (t .points) (asked e .1) p;
+      found-in-range = λ e. subst Ranged e (feed-ranged s price);
+      never-14 = λ e. not-14 (subst Known e (k .known)) refl;
+      numbers = λ e. subst Known e (k .known);
+      only-11 = λ e. k .told .eleven (ap number-of e);
+      when-11 = λ h n. unfold refuse in at-11 s price (lets-through h) n;
+      when-12 = λ h n u. unfold refuse in at-12 s price (lets-through h) n u;
+      only-12 = λ e. unbracketed s price (k .told .twelve (ap number-of e));
+      when-13 = λ h n u r. unfold refuse in at-13 s price (lets-through h) n u r;
+      after-50 = λ e. k .told .thirteen (ap number-of e);
     }
   where
+    asked : {v : Float} {t : Solver} → feed s price ≡ asking v t → (isVolatility v ≡ true) × In (t .points)
+    asked e = subst Ranged e (feed-ranged s price)
+
+    lets-through : (Unusable s → ⊥) → isUnusable s ≡ false
+    lets-through h = go (isUnusable s) refl
+      where
+        go : (b : Bool) → isUnusable s ≡ b → isUnusable s ≡ false
+        go true e = absurd (h (unusable-of s e))
+        go false e = e
+
     back : (x : Values) (t : Solver) → ended (refused 21 (zeros 0)) s ≡ ended (refused 21 x) t → (t ≡ s) × (x ≡ zeros 0)
     back x t e = (cc, cc)
 
@@ -228,13 +362,19 @@ blank : (n : ℕ) → Blank n (zeros n)
 unfolding zeros
 blank n = record { volatility = refl; error = refl; c = refl; c-error = refl; evaluations = refl }
 
+all-zero : AllZero over
+unfolding over
+all-zero =
+    record { market = refl; a = refl; b = refl; c = refl; fa = refl; fb = refl; fc = refl; d = refl; e = refl; rounds = refl; evaluations = refl }
+
 -- THE THEOREM
 pub claim : Claim
 claim =
     record {
       blank = blank;
+      all-zero = all-zero;
       determined = determined;
-      listed = λ market prices. ran market (run market prices) (run-good market prices);
+      listed = λ market prices. ran market (run market prices) (run-good market prices) (λ t m. run-in market prices m);
       modelled = λ market price. modelled price market;
       fed = fed;
     }

@@ -1,5 +1,6 @@
 -- Document 01: "The solver is Brent's (1973) as the Rust writes it." One turn of the loop of `implied_volatility` (src/options/greeks.rs), in its names
 -- and its order of operations. The line of the Rust stands above each definition.
+use Prim.Native.Nat.{ℕ}
 use mathlib.Core.Bool.{Bool, _&&_, _||_}
 use lib.Ieee.{Float, neg}
 use Rattle.floats.specs.Operators.{decimal, _⊕_, _⊖_, _⊗_, _⊘_, _≺_, _≼_, if_then_else_}
@@ -63,9 +64,14 @@ interpolation p xm =
 unfoldable pub tries : Points → Float → Bool
 tries p tol1 = tol1 ≼ magnitude (p .e) && magnitude (p .fb) ≺ magnitude (p .fa)
 
+-- The factor 3.0 of the line below: an accepted interpolation is under half of so many times xm. The law of S-10 holds it from above; that it is no less
+-- is held against the Rust alone (brent_test, the comparison).
+abbrev pub reach : ℕ
+reach = 3
+
 -- 2.0 * p_brent < (3.0 * xm * q_brent - (tol1 * q_brent).abs()).min(e.abs() * q_brent.abs())
 unfoldable pub accepts : Ratio → Float → Float → Float → Bool
-accepts r e tol1 xm = decimal 2 1 ⊗ r .p ≺ minimum (decimal 3 1 ⊗ xm ⊗ r .q ⊖ magnitude (tol1 ⊗ r .q)) (magnitude e ⊗ magnitude (r .q))
+accepts r e tol1 xm = decimal 2 1 ⊗ r .p ≺ minimum (decimal reach 1 ⊗ xm ⊗ r .q ⊖ magnitude (tol1 ⊗ r .q)) (magnitude e ⊗ magnitude (r .q))
 
 -- The last two steps: e = d; d = p_brent / q_brent; where the interpolation is tried and accepted, else d = xm; e = d;
 unfoldable pub steps : Points → Float → Float → LastSteps

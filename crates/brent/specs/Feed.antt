@@ -1,5 +1,5 @@
 -- Document 01: the solver "also stands alone, fed one price at a time by any model; checks are 5 at the start, then 21, 11, 12, 13, 14."
--- Ends 0.000001 and 10, 50 rounds, error = price - market price.
+-- 14 left with S-10: no answer is out of range. Ends 0.000001 and 10, 50 rounds, error = price - market price.
 use Prim.Native.Nat.{ℕ, _+_}
 use mathlib.Core.Bool.{Bool, not, _&&_, _||_}
 use lib.Dec.{leb, ltb, eqb}
@@ -24,7 +24,13 @@ over =
 unfoldable pub fresh : Float → Solver
 fresh market =
     let o = decimal 0 1 in
-    record { market = market; points = record { a = lowestVolatility; b = highestVolatility; c = lowestVolatility; fa = o; fb = o; fc = o; d = o; e = o }; rounds = 0; evaluations = 0 }
+    record {
+      market = market;
+      points =
+          record { a = lowestVolatility; b = highestVolatility; c = lowestVolatility; fa = o; fb = o; fc = o; d = o; e = o };
+      rounds = 0;
+      evaluations = 0;
+    }
 
 -- The three answers: the solver ends with a number, asks for the price at b, or ends with b as its answer.
 unfoldable pub refuse : ℕ → ℕ → Reply
@@ -49,37 +55,36 @@ placed p evaluations error =
     then (record { a = p .a; b = p .b; c = p .a; fa = p .fa; fb = error; fc = p .fa; d = p .b ⊖ p .a; e = p .b ⊖ p .a })
     else (record { a = p .a; b = p .b; c = p .c; fa = p .fa; fb = error; fc = p .fc; d = p .d; e = p .e }))
 
--- 21. It ended (a market of 0.0 passes no start), or its state holds more than 50 rounds or 52 evaluations.
-unfoldable pub isSpent : Solver → Bool
-isSpent s = eq (s .market) (decimal 0 1) || ltb 50 (s .rounds) || ltb 52 (s .evaluations)
+-- S-10: the points a, b and c lie in 0.000001 to 10. (d and e are steps.)
+unfoldable pub inRange : Points → Bool
+inRange p = isVolatility (p .a) && isVolatility (p .b) && isVolatility (p .c)
+
+-- 21. It ended (a market of 0.0 passes no start), or its state "holds more than 50 rounds or 52 evaluations" or, since S-10, "a point not in that range".
+unfoldable pub isUnusable : Solver → Bool
+isUnusable s = eq (s .market) (decimal 0 1) || ltb 50 (s .rounds) || ltb 52 (s .evaluations) || not (inRange (s .points))
 
 -- 12. The two end errors have a product above 0: known once the second end's price is.
 unfoldable pub isUnbracketed : Solver → Float → Bool
 isUnbracketed s error = eqb (s .evaluations) 1 && decimal 0 1 ≺ s .points .fa ⊗ error
 
--- 14. The answer is not in 0.000001 to 10. The first price makes no answer: no round follows it.
-unfoldable pub isAstray : ℕ → Points → Bool
-isAstray evaluations p = not (eqb evaluations 0) && converged p && not (isVolatility (p .b))
-
--- The checks of a feed in their order, p being the points that the round has once c is set and the two are swapped.
-unfoldable pub feedNumber : Solver → Float → Points → ℕ
-feedNumber s error p =
-    first (isSpent s) 21
+-- The checks of a feed in their order.
+unfoldable pub feedNumber : Solver → Float → ℕ
+feedNumber s error =
+    first (isUnusable s) 21
     (first (not (finite error)) 11
     (first (isUnbracketed s error) 12
     (first (leb 50 (s .rounds)) 13
-    (first (isAstray (s .evaluations) p) 14
-    none))))
+    none)))
 
 -- The answer to the volatility asked for last, whose price is fed. It counts as an evaluation, "the one refused by 11 included". "21 hands a state back
--- unaltered"; success and 11 to 14 end the solver. The first price is answered by asking for the second; each later one starts a round.
+-- unaltered"; "success and 11 to 14 end it", 14 without occasion. The first price is answered by asking for the second; each later one starts a round.
 unfoldable pub feed : Solver → Float → Reply
 feed s price =
     let error = price ⊖ s .market in
+    let number = feedNumber s error in
+    let n = s .evaluations + 1 in
     let q = placed (s .points) (s .evaluations) error in
     let p = swap (reset q) in
-    let number = feedNumber s error p in
-    let n = s .evaluations + 1 in
     if eqb number 21 then (ended (refused 21 (zeros 0)) s)
     else (if not (eqb number none) then (refuse number n)
     else (if eqb (s .evaluations) 0 then (ask (s .market) q (s .rounds) n)

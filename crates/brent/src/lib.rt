@@ -2,7 +2,7 @@
 ghost use mathlib.Core.Path.{_≡_};
 ghost use Rattle.brent.specs.Brent.{reset, swap, tolerance, middle, converged, turned, interpolation, tries, accepts, steps, step, advance};
 ghost use Rattle.brent.specs.Outcome.{outcome};
-ghost use Rattle.brent.specs.Feed.{over, fresh, refuse, ask, find, start, placed, isSpent, isUnbracketed, isAstray, feedNumber, feed};
+ghost use Rattle.brent.specs.Feed.{over, fresh, refuse, ask, find, start, placed, inRange, isUnusable, isUnbracketed, feedNumber, feed};
 
 // A round's numbers: the last point a, the best b and the opposing c, their errors, and the last two steps.
 pub struct Points {
@@ -319,11 +319,18 @@ fn placed(p: Points, evaluations: u64, error: f64) -> Points
     }
 }
 
-// 21
-fn is_spent(s: Solver) -> bool
-    ensures { λ r. ⌜ r ≡ isSpent s ⌝ }
+fn in_range(p: Points) -> bool
+    ensures { λ r. ⌜ r ≡ inRange p ⌝ }
 {
-    (s.market == 0.0) | (s.rounds > 50) | (s.evaluations > 52)
+    limits::is_volatility(p.a) & limits::is_volatility(p.b) & limits::is_volatility(p.c)
+}
+
+// 21
+fn is_unusable(s: Solver) -> bool
+    ensures { λ r. ⌜ r ≡ isUnusable s ⌝ }
+{
+    let points = s.points;
+    (s.market == 0.0) | (s.rounds > 50) | (s.evaluations > 52) | !in_range(points)
 }
 
 // 12
@@ -333,27 +340,12 @@ fn is_unbracketed(s: Solver, error: f64) -> bool
     s.evaluations == 1 && s.points.fa * error > 0.0
 }
 
-// 14
-fn is_astray(evaluations: u64, p: Points) -> bool
-    ensures { λ r. ⌜ r ≡ isAstray evaluations p ⌝ }
-{
-    if evaluations == 0 {
-        return false;
-    }
-    if converged(p) {
-        !limits::is_volatility(p.b)
-    } else {
-        false
-    }
-}
-
 // The checks of a feed in document 01's order; 0 where none holds.
-fn feed_number(s: Solver, error: f64, p: Points) -> u64
-    ensures { λ r. ⌜ r ≡ feedNumber s error p ⌝ }
+fn feed_number(s: Solver, error: f64) -> u64
+    ensures { λ r. ⌜ r ≡ feedNumber s error ⌝ }
 {
-    let evaluations = s.evaluations;
     let rounds = s.rounds;
-    if is_spent(s) {
+    if is_unusable(s) {
         return 21;
     }
     if !floats::is_finite(error) {
@@ -364,9 +356,6 @@ fn feed_number(s: Solver, error: f64, p: Points) -> u64
     }
     if rounds >= 50 {
         return 13;
-    }
-    if is_astray(evaluations, p) {
-        return 14;
     }
     0
 }
@@ -400,16 +389,14 @@ fn find(p: Points, evaluations: u64) -> Answer
     }
 }
 
-// Answers the price at the volatility that was asked for: 21, 11, 12, 13, 14, or it has found the volatility, or it asks for another price.
+// Answers the price at the volatility that was asked for: 21, 11, 12, 13, or it has found the volatility, or it asks for another price.
 pub fn feed(s: Solver, price: f64) -> Answer
     ensures { λ r. ⌜ outcome r ≡ feed s price ⌝ }
 {
     let made = s.evaluations;
     let points = s.points;
     let error = price - s.market;
-    let q = placed(points, made, error);
-    let p = swap(reset(q));
-    let number = feed_number(s, error, p);
+    let number = feed_number(s, error);
     if number == 21 {
         return Answer::Refused {
             number: 21,
@@ -421,9 +408,11 @@ pub fn feed(s: Solver, price: f64) -> Answer
     if number != 0 {
         return refuse(number, n);
     }
+    let q = placed(points, made, error);
     if made == 0 {
         return ask(s.market, q, s.rounds, n);
     }
+    let p = swap(reset(q));
     if converged(p) {
         return find(p, n);
     }

@@ -1,6 +1,6 @@
 // Feeds the solver the recorded lists of the file `stdin` and writes each answer: its number, the bits of its floats and its evaluations.
-// A line is a letter and 16 hexadecimal digits: S starts a solver for a market price, P feeds it a price; M, R and E make a state by hand, setting
-// its market price, rounds or evaluations. vectors.py says what the lines are and makes the answers to expect.
+// A line is a letter and 16 hexadecimal digits: S starts a solver for a market price, P feeds it a price; M, A, B, C, R and E make a state by hand,
+// setting its market price, a point, its rounds or evaluations. vectors.py says what the lines are and makes the answers to expect.
 use brent::Answer;
 use brent::Points;
 use brent::Solver;
@@ -123,6 +123,21 @@ fn made(market: f64, points: Points, rounds: u64, evaluations: u64) -> Solver {
     }
 }
 
+// The state's points with a, b or c put by hand, by the letter.
+fn moved(letter: u8, x: f64, p: Points) -> Points {
+    let mut q = p;
+    if letter == b'A' {
+        q.a = x;
+    }
+    if letter == b'B' {
+        q.b = x;
+    }
+    if letter == b'C' {
+        q.c = x;
+    }
+    q
+}
+
 // One line: a call of the solver, or a state made by hand.
 fn turn(letter: u8, n: u64, s: Solver) -> Solver {
     let points = s.points;
@@ -141,7 +156,12 @@ fn turn(letter: u8, n: u64, s: Solver) -> Solver {
     if letter == b'E' {
         return made(s.market, points, s.rounds, n);
     }
-    s
+    made(
+        s.market,
+        moved(letter, float_of(n), points),
+        s.rounds,
+        s.evaluations,
+    )
 }
 
 fn main() {

@@ -2,12 +2,12 @@
 -- another, so that each is its own place. Assumes nothing.
 use Prim.Native.Nat.{ℕ, zero, suc, _-_, _*_, _≤_, _<_}
 use mathlib.Core.Path.{_≡_, refl, sym, ap, _∙_, subst}
-use mathlib.Core.Bool.{Bool, true, false, _&&_, _||_}
+use mathlib.Core.Bool.{true, false}
 use mathlib.Core.Logic.{_⊎_, inl, inr}
 use mathlib.Core.List.{List, [], _∷_}
 use native.Mathlib.Nat.{mul-right-comm, mul-le-mul-right, le-of-eq, le-of-suc-le-suc, mul-pos, mul-lt-mul-of-pos-right, lt-of-mul-lt-mul-right, lt-of-le-of-lt, lt-of-lt-of-le}
 use native.Mathlib.Omega.{arith}
-use lib.Dec.{T, ltb, eqb, ltb→lt, eqb→eq}
+use lib.Dec.{T}
 use lib.ListN.{length, getD}
 use lib.Ieee.{Float, nan, inf, fin, binary64, lt, le, up, down, round}
 use lib.Ieee.Bits.{is-true}
@@ -17,7 +17,7 @@ use lib.Ieee.Positive.{positive, num, den, den-pos, cross→le, sub-anti, positi
 use borrow.Author.Tests.{ltb-true, lt-ltb}
 use Rattle.floats.specs.Operators.{_⊖_, _≺_, _≼_}
 use Rattle.floats.specs.Values.{magnitude, finite}
-use Rattle.floats.proofs.Tests.{clash}
+use Rattle.floats.proofs.Tests.{clash, or-le}
 use Rattle.floats.proofs.Order.{Under, under-trans, under-of-not-lt, sub-down, sub-either}
 use Rattle.grid.specs.Search.{firstWhere}
 use Rattle.grid.specs.Readings.{ascends, isAxis}
@@ -46,14 +46,6 @@ no-gap x y p q h k =
 near-self : (x : Float) → T (positive x) → near x x ≡ true
 near-self x p = near-below x x p p (omega arith) (no-gap x x p p (omega arith) (omega arith))
 
-or-le : (a b : ℕ) → T (ltb a b || (eqb a b && true)) → a ≤ b
-or-le a b t = go (ltb a b) (eqb a b) (ltb→lt a b) (eqb→eq a b) t
-  where
-    go : (x y : Bool) → (T x → a < b) → (T y → a ≡ b) → T (x || (y && true)) → a ≤ b
-    go true y f g t = omega (arith, f tt)
-    go false true f g t = omega (arith, g tt)
-    go false false f g t = absurd t
-
 -- x / p ≤ y / q < z / r
 strict : (x y z p q r : ℕ) → 0 < p → x * q ≤ y * p → y * r < z * q → x * r < z * p
 strict x y z p q r P h k =
@@ -73,7 +65,8 @@ under-hair (inf s) (fin t n d) h k = absurd h
 under-hair (fin s m e) nan h k = absurd h
 under-hair (fin s m e) (inf t) h k = clash refl (sym k)
 under-hair (fin s m e) (fin t n d) h k =
-    lt-ltb _ _ (strict (m * up e) (n * up d) (num hair) (down e) (down d) (den hair) (down-pos e) (or-le (m * up e * down d) (n * up d * down e) h) (ltb-true (n * up d * den hair) (num hair * down d) k))
+    lt-ltb _ _ (strict (m * up e) (n * up d) (num hair) (down e) (down d) (den hair) (down-pos e)
+    (or-le (m * up e * down d) (n * up d * down e) true h) (ltb-true (n * up d * den hair) (num hair * down d) k))
 
 -- a value that is no hair below x is far from it, and so is every value below that one
 far : (j k x : Float) → T (positive j) → T (positive k) → T (positive x) → Under j k → Under k x → x ⊖ k ≺ hair ≡ false → near j x ≡ false

@@ -4,3 +4,8 @@ pub mod Rounding
 pub mod Order
 pub mod Products
 pub mod Whole
+pub mod Short
+pub mod Minimum
+pub mod Quotients
+pub mod Between
+pub mod Bounds

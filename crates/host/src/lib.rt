@@ -246,7 +246,8 @@ fn implied_values(answer: Implied) -> [f64; 4]
     }
 }
 
-// Checks 5 to 9, then solves: 11 to 14. Writes the volatility, its error, the opposing point c, its error; and the evaluations made.
+// Checks 5 to 9, then solves: 12, 13 (11 never holds: crate bounds).
+// Writes the volatility, its error, the opposing point c, its error; and the evaluations made.
 #[no_mangle]
 pub extern "C" fn kite_implied_volatility(
     put: bool,

@@ -7,7 +7,7 @@ use lib.Dec.{ltb}
 use lib.ListN.{length}
 use borrow.Author.Tests.{ltb-false, le-ltb, eq-eqb}
 use Rattle.floats.specs.Operators.{if_then_else_}
-use Rattle.floats.proofs.Tests.{or-right-false}
+use Rattle.floats.proofs.Tests.{or-left-false, or-right-false}
 use Rattle.limits.specs.Ranges.{isSpot, isRate}
 use Rattle.limits.specs.Checks.{first, none}
 use Rattle.limits.specs.Outcome.{refused}
@@ -59,10 +59,6 @@ start opening was =
 pub same-short : (opening : Opening) (was : Columns) (l : Ledger) (t : Tally) → Agree opening was l t → isShort (l .columns) ≡ isShort was
 unfolding isShort
 same-short opening was l t a = rw (a .strikes .same-length, a .expiries .same-length, a .volatilities .same-length)
-
-pub or-left-false : (a b : Bool) → (a || b) ≡ false → a ≡ false
-or-left-false true b h = h
-or-left-false false b h = refl
 
 -- where 1 does not hold, each column has 1,024 entries
 pub record Long (c : Columns) : Type 0 where

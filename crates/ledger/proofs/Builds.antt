@@ -13,7 +13,7 @@ use lib.ListN.{length, drop}
 use lib.Seq.{take-append-seam, drop-append-seam}
 use borrow.Author.Tests.{lt-ltb, le-ltb, ltb-true, ltb-false, eq-eqb, ne-eqb}
 use lib.Ieee.{nan}
-use Rattle.floats.proofs.Tests.{or-right-false}
+use Rattle.floats.proofs.Tests.{or-left-false, or-right-false}
 use Rattle.limits.specs.Checks.{first, none}
 use Rattle.grid.specs.Answers.{answered, unlessRefused}
 use Rattle.chart.specs.Quotes.{Quote, quotes, allInRange}
@@ -28,7 +28,7 @@ use Rattle.ledger.specs.Tally.{Tally}
 use Rattle.ledger.specs.Book.{Columns, openRefusal, isShort}
 use Rattle.ledger.specs.Build.{Buffers, quotesOf, buildRefusal, buildOutcome, buffersAfter}
 use Rattle.ledger.specs.Claim.{Ledger, Neighbour, left, right, surfaceRefusal, rows, columns, SurfaceClaim, BuildClaim}
-use Rattle.ledger.proofs.Agree.{Agree, or-left-false, same-short, unbroken}
+use Rattle.ledger.proofs.Agree.{Agree, same-short, unbroken}
 
 -- ---- where a cell's mean comes from
 own-source : (c : ℕ → ℕ) (w j : ℕ) → 0 < c j → source c w j ≡ j

@@ -112,8 +112,8 @@ unfolding offerRefusal answer
 offerOutcome model c b o = if eqb (offerRefusal c b o) none then answer model (openingOf b) o else refused (offerRefusal c b o) (zeros 0)
 
 -- ---- what it does to the record and the columns
--- An accepted offer "adds one to kept and heard, adds the solver's evaluations"; "1 to 3 keep the book record; 4, 5, 7, 8 and 10 to 14 add one to heard
--- and refused and add the evaluations made."
+-- An accepted offer "adds one to kept and heard, adds the solver's evaluations"; "1 to 3 keep the book record; 4, 5, 7, 8 and 10 to 14, met by an offer,
+-- add one to heard and refused and add the evaluations made." (14 left with S-10.)
 abbrev pub keptBook : Book → ℕ → Book
 keptBook b made = record { spot = b .spot; rate = b .rate; kept = b .kept + 1; refused = b .refused; heard = b .heard + 1; evaluations = b .evaluations + made }
 

@@ -28,7 +28,7 @@ isExpiry t = within (decimal 1 1000000) (decimal 100 1) t
 abbrev pub isRate : Float → Bool
 isRate r = within (neg (decimal 1 1)) (decimal 1 1) r
 
--- 10. A volatility: 0.000001 to 10. The solver's ends, and check 14, are the same.
+-- 10. A volatility: 0.000001 to 10. The solver's ends, and the range that 21 asks of its points, are the same.
 abbrev pub lowestVolatility : Float
 lowestVolatility = decimal 1 1000000
 

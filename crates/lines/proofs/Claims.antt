@@ -63,6 +63,7 @@ program =
       at-once = one-call;
       within = λ s c chunk out. (fed-within s c chunk out, finished-within s c out);
       numbers = tabled;
+      bad-21 = λ l. refl;
       read-only = read-only;
       bad-only = λ l. refl;
       shut = shut;

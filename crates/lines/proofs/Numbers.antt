@@ -1,17 +1,18 @@
 -- The numbers that frames are answered with. Assumes nothing.
-use Prim.Native.Nat.{ℕ, _≤_}
-use mathlib.Core.Path.{_≡_}
-use mathlib.Core.Bool.{Bool, cond}
-use lib.Dec.{eqb, lit≤}
+use Prim.Native.Nat.{ℕ}
+use mathlib.Core.Path.{_≡_, refl}
+use mathlib.Core.Bool.{Bool, true, not, _&&_, cond}
+use lib.Dec.{leb, eqb}
+use borrow.Author.Tests.{leb-true, eq-eqb, not-true}
 use lib.Ieee.{Float}
 use Rattle.floats.specs.Operators.{decimal, if_then_else_}
-use Rattle.floats.proofs.Tests.{by}
+use Rattle.floats.proofs.Tests.{by, clash, and-left, and-right}
 use Rattle.limits.specs.Checks.{first, none}
 use Rattle.limits.specs.Outcome.{Outcome, done, refused}
 use Rattle.brent.specs.Outcome.{Values, ended, zeros}
 use Rattle.brent.specs.Feed.{over}
 use Rattle.brent.specs.Run.{Run, runWith}
-use Rattle.brent.specs.Claim.{Given, five, eleven, twelve, thirteen, fourteen}
+use Rattle.brent.specs.Claim.{Given, five, eleven, twelve, thirteen}
 use Rattle.brent.proofs.Theorem.{claim}
 use Rattle.greeks.specs.declared.OptionType.the-variants as OptionType
 use Rattle.grid.specs.Answers.{answered}
@@ -24,104 +25,113 @@ use Rattle.ledger.specs.Claim.{Ledger, hear}
 use Rattle.ledger.specs.declared.Book.{Book}
 use Rattle.frames.specs.declared.Frame.{Frame}
 use Rattle.frames.specs.declared.Frame.the-variants.{Open, Call, Put, Vol, Read, Bad}
+use Rattle.lines.specs.Claims.{Tabled}
 use Rattle.lines.specs.Hear.{ledger, said, bookOf, opens, offers, blank, readOf, reads, hears}
 
--- A number of the table, or none.
-abbrev Tabled : {X : Type 0} → Outcome X → Type 0
-Tabled (done x) = Unit {0}
-Tabled (refused number x) = number ≤ 21
+is-tabled : (n : ℕ) → (leb n 21 && not (eqb n 14)) ≡ true → Tabled n
+is-tabled n h =
+    let few = leb n 21 in
+    let other = not (eqb n 14) in
+    (leb-true n 21 (and-left few other h), λ e. clash (eq-eqb n 14 e) (not-true (eqb n 14) (and-right few other h)))
 
-next : (holds : Bool) (number rest : ℕ) → number ≤ 21 → rest ≤ 21 → first holds number rest ≤ 21
+-- Done, or refused by a number of the table.
+abbrev InTable : {X : Type 0} → Outcome X → Type 0
+InTable (done x) = Unit {0}
+InTable (refused number x) = Tabled number
+
+next : (holds : Bool) (number rest : ℕ) → (leb number 21 && not (eqb number 14)) ≡ true → Tabled rest → Tabled (first holds number rest)
 unfolding first
-next holds number rest h k = by (λ (n : ℕ). n ≤ 21) (λ (b : Bool). cond b number rest) holds (λ _. h) (λ _. k)
+next holds number rest h k = by Tabled (λ (b : Bool). cond b number rest) holds (λ _. is-tabled number h) (λ _. k)
 
--- Refused by the number, or an outcome that is tabled.
-chosen : {X : Type 0} (n : ℕ) (x : X) (o : Outcome X) → n ≤ 21 → Tabled o → Tabled (if eqb n none then o else refused n x)
-chosen n x o h k = by Tabled (λ (b : Bool). cond b o (refused n x)) (eqb n none) (λ _. k) (λ _. h)
+no-number : Tabled none
+no-number = is-tabled none refl
 
-open-tabled : (o : Opening) → Tabled (opened o)
+-- Refused by the number, or an outcome that is in the table.
+chosen : {X : Type 0} (n : ℕ) (x : X) (o : Outcome X) → Tabled n → InTable o → InTable (if eqb n none then o else refused n x)
+chosen n x o h k = by InTable (λ (b : Bool). cond b o (refused n x)) (eqb n none) (λ _. k) (λ _. h)
+
+open-tabled : (o : Opening) → InTable (opened o)
 unfolding opened openRefusal
-open-tabled o = chosen _ _ (done _) (next _ 6 _ (lit≤ tt) (next _ 9 none (lit≤ tt) (lit≤ tt))) tt
+open-tabled o = chosen _ _ (done _) (next _ 6 _ refl (next _ 9 none refl no-number)) tt
 
-given-tabled : {n k : ℕ} → Given n k → n ≤ 21
-given-tabled five = lit≤ tt
-given-tabled (eleven p q) = lit≤ tt
-given-tabled twelve = lit≤ tt
-given-tabled thirteen = lit≤ tt
-given-tabled (fourteen p q) = lit≤ tt
+given-tabled : {n k : ℕ} → Given n k → Tabled n
+given-tabled five = is-tabled 5 refl
+given-tabled (eleven p q) = is-tabled 11 refl
+given-tabled twelve = is-tabled 12 refl
+given-tabled thirteen = is-tabled 13 refl
 
-run-tabled : (market : Float) (price : Float → Float) → Tabled (endOf (runWith market price .reply))
+run-tabled : (market : Float) (price : Float → Float) → InTable (endOf (runWith market price .reply))
 unfolding endOf
 run-tabled market price = let m = claim .modelled market price in go (m .done-with .0) (m .done-with .1)
   where
-    go : (o : Outcome Values) → runWith market price .reply ≡ ended o over → Tabled (endOf (runWith market price .reply))
+    go : (o : Outcome Values) → runWith market price .reply ≡ ended o over → InTable (endOf (runWith market price .reply))
     go (done x) e = rw e tt
     go (refused n x) e = rw e (given-tabled (claim .modelled market price .ran .refusal e .0))
 
-answer-tabled : (model : Model) (opening : Opening) (o : Offer) → Tabled (answer model opening o)
+answer-tabled : (model : Model) (opening : Opening) (o : Offer) → InTable (answer model opening o)
 unfolding answer
 answer-tabled model opening (volatility strike expiry v) = tt
 answer-tabled model opening (priced kind strike expiry market) = run-tabled market (model opening kind strike expiry)
 
-own-tabled : (o : Offer) → ownRefusal o ≤ 21
+own-tabled : (o : Offer) → Tabled (ownRefusal o)
 unfolding ownRefusal
-own-tabled (volatility strike expiry v) = next _ 7 _ (lit≤ tt) (next _ 8 _ (lit≤ tt) (next _ 10 none (lit≤ tt) (lit≤ tt)))
-own-tabled (priced kind strike expiry market) = next _ 5 _ (lit≤ tt) (next _ 7 _ (lit≤ tt) (next _ 8 none (lit≤ tt) (lit≤ tt)))
+own-tabled (volatility strike expiry v) = next _ 7 _ refl (next _ 8 _ refl (next _ 10 none refl no-number))
+own-tabled (priced kind strike expiry market) = next _ 5 _ refl (next _ 7 _ refl (next _ 8 none refl no-number))
 
-offer-tabled : (model : Model) (c : Columns) (b : Book) (o : Offer) → Tabled (offerOutcome model c b o)
+offer-tabled : (model : Model) (c : Columns) (b : Book) (o : Offer) → InTable (offerOutcome model c b o)
 unfolding offerOutcome offerRefusal entryRefusal
 offer-tabled model c b o =
     chosen _ _ (answer model _ o)
-    (next _ 1 _ (lit≤ tt) (next _ 2 _ (lit≤ tt) (next _ 3 _ (lit≤ tt) (next _ 4 _ (lit≤ tt) (own-tabled o)))))
+    (next _ 1 _ refl (next _ 2 _ refl (next _ 3 _ refl (next _ 4 _ refl (own-tabled o)))))
     (answer-tabled model _ o)
 
-build-tabled : (b : Book) (c : Columns) (s : Buffers) → Tabled (buildOutcome b c s)
+build-tabled : (b : Book) (c : Columns) (s : Buffers) → InTable (buildOutcome b c s)
 unfolding buildOutcome buildRefusal refusal answered
 build-tabled b c s =
     chosen _ _ (done _)
-    (next _ 1 _ (lit≤ tt)
-    (next _ 2 _ (lit≤ tt)
-    (next _ 1 _ (lit≤ tt) (next _ 2 _ (lit≤ tt) (next _ 15 _ (lit≤ tt) (next _ 16 _ (lit≤ tt) (next _ 17 none (lit≤ tt) (lit≤ tt))))))))
+    (next _ 1 _ refl
+    (next _ 2 _ refl
+    (next _ 1 _ refl (next _ 2 _ refl (next _ 15 _ refl (next _ 16 _ refl (next _ 17 none refl no-number)))))))
     tt
 
-read-tabled : (ks ts grid : _) (m n : ℕ) (strike expiry : Float) → Tabled (reading ks ts grid m n strike expiry)
+read-tabled : (ks ts grid : _) (m n : ℕ) (strike expiry : Float) → InTable (reading ks ts grid m n strike expiry)
 unfolding reading readRefusal answered
 read-tabled ks ts grid m n strike expiry =
     chosen _ _ (done _)
-    (next _ 2 _ (lit≤ tt) (next _ 15 _ (lit≤ tt) (next _ 18 _ (lit≤ tt) (next _ 19 _ (lit≤ tt) (next _ 20 none (lit≤ tt) (lit≤ tt))))))
+    (next _ 2 _ refl (next _ 15 _ refl (next _ 18 _ refl (next _ 19 _ refl (next _ 20 none refl no-number)))))
     tt
 
-read-of-tabled : (s : Buffers) (strike expiry : Float) (o : Outcome Lengths) → Tabled o → Tabled (readOf s strike expiry o)
+read-of-tabled : (s : Buffers) (strike expiry : Float) (o : Outcome Lengths) → InTable o → InTable (readOf s strike expiry o)
 unfolding readOf
 read-of-tabled s strike expiry (done n) h = read-tabled (s .strikes) (s .expiries) (s .grid) (n .strikes) (n .expiries) strike expiry
 read-of-tabled s strike expiry (refused number n) h = h
 
-said-tabled : {X : Type 0} (l : Ledger) (value : X → Float) (o : Outcome X) → Tabled o → said l value o .number ≤ 21
+said-tabled : {X : Type 0} (l : Ledger) (value : X → Float) (o : Outcome X) → InTable o → Tabled (said l value o .number)
 unfolding said
-said-tabled l value (done x) h = lit≤ tt
+said-tabled l value (done x) h = no-number
 said-tabled l value (refused number x) h = h
 
-opens-tabled : (l : Ledger) (o : Opening) → opens l o .number ≤ 21
+opens-tabled : (l : Ledger) (o : Opening) → Tabled (opens l o .number)
 unfolding opens
 opens-tabled l o = said-tabled (ledger (bookOf (opened o)) (l .columns)) (λ (b : Book). decimal 0 1) (opened o) (open-tabled o)
 
-offers-tabled : (l : Ledger) (o : Offer) → offers l o .number ≤ 21
+offers-tabled : (l : Ledger) (o : Offer) → Tabled (offers l o .number)
 unfolding offers
 offers-tabled l o =
     said-tabled (hear bsm l o) (λ (x : Values). x .volatility) (offerOutcome bsm (l .columns) (l .book) o) (offer-tabled bsm (l .columns) (l .book) o)
 
-reads-tabled : (l : Ledger) (strike expiry : Float) → reads l strike expiry .number ≤ 21
+reads-tabled : (l : Ledger) (strike expiry : Float) → Tabled (reads l strike expiry .number)
 unfolding reads
 reads-tabled l strike expiry =
     let s = buffersAfter (l .book) (l .columns) blank in
     let o = buildOutcome (l .book) (l .columns) blank in
     said-tabled l (λ (x : Float). x) (readOf s strike expiry o) (read-of-tabled s strike expiry o (build-tabled (l .book) (l .columns) blank))
 
-pub tabled : (l : Ledger) (f : Frame) → hears l f .number ≤ 21
+pub tabled : (l : Ledger) (f : Frame) → Tabled (hears l f .number)
 unfolding hears
 tabled l (Open spot rate) = opens-tabled l (record { spot = spot; rate = rate })
 tabled l (Call strike expiry price) = offers-tabled l (priced OptionType.Call strike expiry price)
 tabled l (Put strike expiry price) = offers-tabled l (priced OptionType.Put strike expiry price)
 tabled l (Vol strike expiry v) = offers-tabled l (volatility strike expiry v)
 tabled l (Read strike expiry) = reads-tabled l strike expiry
-tabled l Bad = lit≤ tt
+tabled l Bad = is-tabled (hears l Bad .number) refl

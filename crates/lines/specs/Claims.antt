@@ -51,6 +51,10 @@ lineOfOffer (volatility strike expiry v) = Vol strike expiry v
 lineOfOffer (priced OptionType.Call strike expiry price) = Call strike expiry price
 lineOfOffer (priced OptionType.Put strike expiry price) = Put strike expiry price
 
+-- A number of document 01's table, from which 14 left with S-10, or none.
+abbrev pub Tabled : ℕ → Type 0
+Tabled n = (n ≤ 21) × (n ≡ 14 → ⊥)
+
 pub record Program : Type 0 where
   -- For every way of cutting the input into chunks, what is written is the answers to the frames of its lines, 19 bytes a line.
   pub streamed : Streamed hears
@@ -64,8 +68,9 @@ pub record Program : Type 0 where
   -- No call writes past the buffer.
   pub within : (s : State) (c : Columns) (chunk out : List ℕ) →
       (countOf (fed s c chunk out .fed .text) ≤ length (fed s c chunk out .out)) × (countOf (finished s c out .fed .text) ≤ length (finished s c out .out))
-  -- "Two decimal digits of answer" are enough: a number of the table.
-  pub numbers : (l : Ledger) (f : Frame) → hears l f .number ≤ 21
+  -- "Two decimal digits of answer" are enough: a number of the table. A line that cannot be used gets 21.
+  pub numbers : (l : Ledger) (f : Frame) → Tabled (hears l f .number)
+  pub bad-21 : (l : Ledger) → hears l Bad .number ≡ 21
   -- 20 and 21 change neither record nor columns.
   pub read-only : (l : Ledger) (strike expiry : Float) → hears l (Read strike expiry) .book ≡ l
   pub bad-only : (l : Ledger) → hears l Bad .book ≡ l

@@ -211,7 +211,7 @@ testL : T (every ruleL 0 (suc lastL))
 unfolding every ruleL isNearest L round size
 testL = tt
 
-factorial-pos : (i : ℕ) → 0 < factorial i
+pub factorial-pos : (i : ℕ) → 0 < factorial i
 unfolding factorial
 factorial-pos zero = omega arith
 factorial-pos (suc i) = mul-pos (omega arith) (factorial-pos i)

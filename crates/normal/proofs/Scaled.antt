@@ -1,20 +1,21 @@
 -- v * 1.4426950408889634 + 0.5, for v from -708 to 709, lies from -1021.5 to 1023.375. Assumes nothing.
 use mathlib.Core.Path.{_≡_, refl, sym, ap, _∙_}
-use mathlib.Core.Bool.{Bool, true, false, cond, true≢false, _&&_, _||_}
+use mathlib.Core.Bool.{Bool, true, false, cond, true≢false, _&&_}
 use Prim.Native.Nat.{ℕ, zero, suc, _+_, _-_, _*_, _/_, _^_, _≤_, _<_}
 use native.Mathlib.Omega.{arith}
-use native.Mathlib.Nat.{mul-assoc, mul-right-comm, mul-le-mul-right, le-of-mul-le-mul-right, le-trans, le-of-eq, div-lt-iff-lt-mul, le-of-lt, lt-of-lt-of-le}
-use lib.Dec.{T, ltb, eqb, lit<, lit≤, ltb→lt, lt→ltb, eqb→eq}
+use native.Mathlib.Nat.{mul-assoc, mul-right-comm, mul-le-mul-right, le-of-mul-le-mul-right, le-trans, le-of-eq, div-lt-iff-lt-mul, lt-of-lt-of-le}
+use lib.Dec.{T, ltb, lit<, lit≤, lt→ltb}
 use lib.IntN.{ℤ, pos, negℤ}
 use lib.Ieee.{Float, nan, inf, fin, binary64, up, down, lt, le, ne, add, sum, mul, neg, round, units, odd}
 use Rattle.floats.specs.Operators.{decimal, _⊗_, _≺_}
 use Rattle.floats.specs.Values.{finite}
 use lib.Ieee.Exact.{HasValue, round-exact}
-use lib.Ieee.Fits.{add-fits, down-pos, and-l}
+use lib.Ieee.Fits.{add-fits, down-pos}
 use lib.Ieee.Order.{round-mono, kept, drop}
 use lib.Pow.{shl-lt}
 use lib.Ieee.Compare.{nan-differs}
 use borrow.Author.Tests.{ltb-false}
+use Rattle.floats.proofs.Tests.{or-le}
 use Rattle.normal.specs.Exp.{overflowLimit, underflowLimit, scaled, floor, LargestNotAbove}
 use Rattle.normal.specs.Steps.{inExponent, Small}
 use Rattle.normal.proofs.Largest.{floor-largest}
@@ -58,13 +59,6 @@ round-near : (s : Bool) (n a b : ℕ) → Near false n (round binary64 false a b
 unfolding round
 round-near s n a b h = units-near s n (kept 53 (a * 2 ^ 1074) b) (drop 53 (a * 2 ^ 1074) b) h
 
-or-le : (a b : ℕ) → T (ltb a b || (eqb a b && true)) → a ≤ b
-or-le a b t = go (ltb a b) (ltb→lt a b) t
-  where
-    go : (x : Bool) → (T x → a < b) → T (x || (eqb a b && true)) → a ≤ b
-    go true f u = le-of-lt (f tt)
-    go false f u = le-of-eq (eqb→eq a b (and-l (eqb a b) true u))
-
 at-most : (x y : Float) (n : ℕ) → Signed false x → HasValue y false n 8 → T (le x y) → Near false n x
 unfolding le
 at-most nan y n s v l = absurd s
@@ -80,7 +74,7 @@ at-most (fin false m e) (fin false p d) n s v l = (
   refl,
   le-of-mul-le-mul-right {k = down d}
       (le-trans (le-of-eq (mul-right-comm (m * up e) 8 (down d)))
-      (le-trans (mul-le-mul-right 8 (or-le (m * up e * down d) (p * up d * down e) l))
+      (le-trans (mul-le-mul-right 8 (or-le (m * up e * down d) (p * up d * down e) true l))
       (le-of-eq (mul-right-comm (p * up d) (down e) 8 ∙ ap (λ (z : ℕ). z * down e) (v .1) ∙ mul-right-comm n (down d) (down e)))))
       (down-pos d),
 )

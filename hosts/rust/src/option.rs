@@ -167,7 +167,7 @@ pub fn bsm_greeks(params: &OptionParams) -> Result<Greeks, Refusal> {
 }
 
 /// The volatility that gives a market price, by Brent's method. Refuses 5 to 9 (the price and the inputs but the volatility) and, of the
-/// solver, 11 to 14.
+/// solver, 12 and 13. (It checks 11 too, which never holds: this model's prices are finite.)
 ///
 /// ```
 /// # use kitesettee::{implied_volatility, OptionParams, OptionType, Refusal, Unsolved};

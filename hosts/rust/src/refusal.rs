@@ -3,12 +3,14 @@ use std::{error, fmt};
 /// Why a call was turned down, with document 01's number as discriminant.
 ///
 /// A call makes its checks in the order of the numbers and stops at the first that holds; the number is given in no other circumstance.
+/// 14 is not in use: no solved volatility is outside 0.000001 to 10.
 ///
 /// ```
 /// use kitesettee::Refusal;
 ///
 /// assert_eq!(Refusal::Strike.number(), 7);
 /// assert_eq!(Refusal::from_number(7), Some(Refusal::Strike));
+/// assert_eq!(Refusal::from_number(14), None);
 /// assert_eq!(Refusal::Rate.to_string(), "the rate is not in -1 to 1 (refusal 9)");
 /// ```
 #[derive(Debug, Clone, Copy, PartialEq, Eq, Hash, PartialOrd, Ord)]
@@ -35,14 +37,12 @@ pub enum Refusal {
     Rate = 9,
     /// A volatility is not in 0.000001 to 10.
     Volatility = 10,
-    /// A price minus the market price is not finite in the solver.
+    /// A price minus the market price is not finite in the solver. (This model's prices are finite, so that none of this crate's calls gives it.)
     SolverNotFinite = 11,
     /// The solver's two ends miss the market price on one side: no volatility in 0.000001 to 10 gives it.
     NotBracketed = 12,
     /// The solver has used 50 rounds.
     NoConvergence = 13,
-    /// The solver's answer is not in 0.000001 to 10.
-    SolvedOutOfRange = 14,
     /// A surface buffer is short. (Of this crate's calls only [`fill_gaps`](crate::fill_gaps) gives it.)
     ShortBuffer = 15,
     /// The strike axis would have more than 64 values.
@@ -55,13 +55,13 @@ pub enum Refusal {
     StrikeRead = 19,
     /// An expiry read is not-a-number or outside the expiry axis, or a cell that the read uses is a gap.
     ExpiryRead = 20,
-    /// A malformed line of the program, or a solver fed after its end. (No call of this crate gives it.)
+    /// A malformed line of the program, or a solver state that cannot be used. (No call of this crate gives it.)
     Malformed = 21,
 }
 
 impl Refusal {
     /// Every refusal, in the order of the numbers.
-    pub const ALL: [Refusal; 21] = [
+    pub const ALL: [Refusal; 20] = [
         Refusal::ShortColumn,
         Refusal::OutOfBounds,
         Refusal::BookClosed,
@@ -75,7 +75,6 @@ impl Refusal {
         Refusal::SolverNotFinite,
         Refusal::NotBracketed,
         Refusal::NoConvergence,
-        Refusal::SolvedOutOfRange,
         Refusal::ShortBuffer,
         Refusal::TooManyStrikes,
         Refusal::TooManyExpiries,
@@ -111,14 +110,13 @@ impl Refusal {
             Refusal::SolverNotFinite => "a price minus the market price is not finite",
             Refusal::NotBracketed => "no volatility in 0.000001 to 10 gives the market price",
             Refusal::NoConvergence => "the solver has used 50 rounds",
-            Refusal::SolvedOutOfRange => "the solved volatility is not in 0.000001 to 10",
             Refusal::ShortBuffer => "a surface buffer is short",
             Refusal::TooManyStrikes => "the strike axis would have more than 64 values",
             Refusal::TooManyExpiries => "the expiry axis would have more than 32 values",
             Refusal::NoSurface => "the surface is empty, or an axis is not finite and strictly ascending",
             Refusal::StrikeRead => "the strike read is outside the surface",
             Refusal::ExpiryRead => "the expiry read is outside the surface, or the surface has a gap there",
-            Refusal::Malformed => "a malformed line, or a solver fed after its end",
+            Refusal::Malformed => "a malformed line, or a solver state that cannot be used",
         }
     }
 }

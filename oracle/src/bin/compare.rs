@@ -49,7 +49,6 @@ fn reason(check: u64, cause: &str) -> Option<&'static str> {
         9 if blank => "01's range, which no not-a-number passes; the Rust takes any rate",
         9 => "01's range; the Rust takes any rate",
         11 => "01: a price minus the market price is not finite; the Rust goes on",
-        14 => "01's range of an answer; the Rust has none",
         16 => "01's axis of at most 64 strikes; the Rust's has no limit",
         17 => "01's axis of at most 32 expiries; the Rust's has no limit",
         18 => "01 reads only axes that are finite and strictly ascending; the Rust reads any",
@@ -478,20 +477,12 @@ fn implied(q: &Named) -> Verdict {
         let value = rust.map(|v| [v]);
         return turned_down(check, number, zeros(&got) && evaluations == 0, value.as_ref().map(|v| &v[..]));
     }
-    // 11, at the first price whose error is not finite; 14. Neither is known to come.
+    // 11 is out of reach: inside 01's ranges every price of the model is finite (crates/bounds).
     if let Some(at) = notes::first_not_finite(market) {
-        return if number == 11 && evaluations == at && zeros(&got) {
-            differs(11, "a price not finite", "goes on", format!("{rust:?}"))
-        } else {
-            Unlisted(format!("01 says 11 at evaluation {at}, ours {number} at {evaluations}"))
-        };
+        return Unlisted(format!("the Rust's error at evaluation {at} is not finite, ours {number} at {evaluations}"));
     }
-    if expected == 0 && !checks::is_volatility(values[0]) {
-        return if number == 14 && evaluations == made && zeros(&got) {
-            differs(14, "an answer out of range", "answers", show(values[0]))
-        } else {
-            Unlisted(format!("01 says 14, ours {number}"))
-        };
+    if let Some(x) = notes::all_tried().iter().map(|t| t.0).find(|x| !checks::is_volatility(*x)) {
+        return Unlisted(format!("S-10: no point is out of range, the Rust tried {}", show(x)));
     }
     let tried = |x: f64, error: f64| notes::tried(x).is_some_and(|p| same_bits(p - market, error));
     let evidence = number != 0 || (tried(got[0], got[1]) && tried(got[2], got[3]));
@@ -539,6 +530,15 @@ fn bits(x: f64) -> u64 {
     if x.is_nan() { 0x7ff8_0000_0000_0000 } else { x.to_bits() }
 }
 
+/// A point asked for; by S-10 none is out of range, and the line is then one that no solver writes.
+fn asked(x: f64, rounds: u64, made: u64) -> String {
+    if checks::is_volatility(x) {
+        format!("ask {:016x} {rounds} {made}", bits(x))
+    } else {
+        format!("no point out of range, as {} is", show(x))
+    }
+}
+
 /// What document 01 has a solver say that is fed these prices, where the Rust's loop tells the points, the answer and when it ends.
 fn told(q: &Fed) -> (Vec<String>, Option<u64>, String) {
     if !checks::is_price(q.market) {
@@ -553,19 +553,18 @@ fn told(q: &Fed) -> (Vec<String>, Option<u64>, String) {
     let any = greeks_fed::OptionParams { spot: 1.0, strike: 1.0, time_to_expiry: 1.0, risk_free_rate: 0.0, volatility: 1.0, option_type: greeks_fed::OptionType::Call };
     let rust = greeks_fed::implied_volatility(q.market, &any);
     let tried = notes::all_tried();
-    let mut lines = vec![format!("ask {:016x} 0 0", tried[0].0.to_bits())];
+    let mut lines = vec![asked(tried[0].0, 0, 0)];
     for (k, price) in q.prices.iter().enumerate() {
         let made = k as u64 + 1;
         let last = made == tried.len() as u64;
         let number = if !(price - q.market).is_finite() {
             11
         } else if !last {
-            lines.push(format!("ask {:016x} {} {made}", bits(tried[k + 1].0), made - 1));
+            lines.push(asked(tried[k + 1].0, made - 1, made));
             continue;
         } else {
             match &rust {
-                Ok(v) if checks::is_volatility(*v) => 0,
-                Ok(_) => 14,
+                Ok(_) => 0,
                 Err(_) if made == 2 => 12,
                 Err(_) => 13,
             }

@@ -1,60 +1,54 @@
 -- `brent::feed`: the checks' number decides first, then the evaluations, then convergence. Assumes nothing.
 use mathlib.Core.Path.{_≡_, refl, sym, _∙_}
 use mathlib.Core.Bool.{Bool, true, false}
-use Prim.Native.Nat.{_≤_}
 use native.Mathlib.Omega.{arith}
 use lib.Ieee.{Float}
 use borrow.Author.Tests.{eq-eqb, ne-eqb}
 use borrow.Author.Needs.{needs}
 use Rattle.limits.specs.Checks.{first}
-use Rattle.brent.specs.declared.Points.{Points}
 use Rattle.brent.specs.declared.Solver.{Solver}
 use Rattle.brent.specs.Outcome.{outcome}
-use Rattle.brent.specs.Feed.{isSpent, feedNumber, feed}
-use Rattle.brent.proofs.Cases.{unspent}
+use Rattle.brent.specs.Feed.{isUnusable, feedNumber, feed}
+use Rattle.brent.proofs.Cases.{Usable, usable}
 use Rattle.brent.proofs.feed.Statement.{statement}
 use Rattle.brent.proofs.feed.Tie as tie
 
 -- so no sum wraps: a state that is not answered by 21 holds at most 50 rounds and 52 evaluations
-held : (s : Solver) (error : Float) (p : Points) → (feedNumber s error p ≡ 21 → ⊥) → (s .rounds ≤ 50) × (s .evaluations ≤ 52)
-held s error p h = go (isSpent s) refl
+held : (s : Solver) (error : Float) → (feedNumber s error ≡ 21 → ⊥) → Usable s
+held s error h = go (isUnusable s) refl
   where
-    at-21 : isSpent s ≡ true → feedNumber s error p ≡ 21
+    at-21 : isUnusable s ≡ true → feedNumber s error ≡ 21
     at-21 e = unfold feedNumber in unfold first in simp e
 
-    go : (b : Bool) → isSpent s ≡ b → (s .rounds ≤ 50) × (s .evaluations ≤ 52)
+    go : (b : Bool) → isUnusable s ≡ b → Usable s
     go true e = absurd (h (at-21 e))
-    go false e = unspent s e
-
-placed-requires : tie.Need-placed-requires
-placed-requires c κs = search needs
-
-reset-requires : tie.Need-reset-requires
-reset-requires c κs = search needs
-
-swap-requires : tie.Need-swap-requires
-swap-requires c κs = search needs
+    go false e = usable s e
 
 feed-number-requires : tie.Need-feed-number-requires
 feed-number-requires c κs = search needs
 
 returns : tie.Need-returns
 unfolding outcome feed
-returns c =
-    let number = simp (c .before .before .before .before .placed .ensures, c .before .before .before .reset .ensures, c .before .before .swap .ensures) at (sym (c .before .feed-number .ensures)) in
-    simp (number ∙ c .if1 .taken)
+returns c = simp (sym (c .before .feed-number .ensures) ∙ c .if1 .taken)
 
 add-n : tie.Need-add-n
-add-n c = omega (arith, held (c .before .before .before .before .before .before .before .args .s) _ (c .before .before .swap .result) (λ e. c .if1 .left (c .before .feed-number .ensures ∙ e)) .1)
+add-n c = omega (arith, held (c .before .before .before .before .args .s) _ (λ e. c .if1 .left (c .before .feed-number .ensures ∙ e)) .evaluations)
 
 refuse-requires : tie.Need-refuse-requires
 refuse-requires c κs = search needs
 
 returns-2 : tie.Need-returns-2
 unfolding feed
-returns-2 c =
-    let number = simp (c .before .before .before .before .before .before .placed .ensures, c .before .before .before .before .before .reset .ensures, c .before .before .before .before .swap .ensures) at (sym (c .before .before .before .feed-number .ensures)) in
-    simp (c .refuse .ensures, number, ne-eqb _ _ (c .before .before .if1 .left), ne-eqb _ _ (c .before .if2 .taken))
+returns-2 c = simp (
+  c .refuse .ensures,
+  sym (c .before .before .before .feed-number .ensures),
+  ne-eqb _ _ (c .before .before .if1 .left),
+  ne-eqb _ _
+      (c .before .if2 .taken),
+)
+
+placed-requires : tie.Need-placed-requires
+placed-requires c κs = search needs
 
 ask-requires : tie.Need-ask-requires
 ask-requires c κs = search needs
@@ -62,8 +56,19 @@ ask-requires c κs = search needs
 returns-3 : tie.Need-returns-3
 unfolding feed
 returns-3 c =
-    let number = simp (c .before .before .before .before .before .before .before .placed .ensures, c .before .before .before .before .before .before .reset .ensures, c .before .before .before .before .before .swap .ensures) at (sym (c .before .before .before .before .feed-number .ensures)) in
-    simp (c .ask .ensures, c .before .before .before .before .before .before .before .placed .ensures, number ∙ c .before .before .if2 .left, eq-eqb _ _ (c .before .if3 .taken))
+    simp (
+      c .ask .ensures,
+      c .before .before .placed .ensures,
+      sym
+          (c .before .before .before .before .before .feed-number .ensures) ∙ c .before .before .before .if2 .left,
+      eq-eqb _ _ (c .before .if3 .taken),
+    )
+
+reset-requires : tie.Need-reset-requires
+reset-requires c κs = search needs
+
+swap-requires : tie.Need-swap-requires
+swap-requires c κs = search needs
 
 converged-requires : tie.Need-converged-requires
 converged-requires c κs = search needs
@@ -71,18 +76,34 @@ converged-requires c κs = search needs
 find-requires : tie.Need-find-requires
 find-requires c κs = search needs
 
+-- in a round: `tested` is the place after the test of convergence, `filled` the one after the error is put in
 returns-4 : tie.Need-returns-4
 unfolding feed
 returns-4 c =
-    let number = simp (c .before .before .before .before .before .before .before .before .before .placed .ensures, c .before .before .before .before .before .before .before .before .reset .ensures, c .before .before .before .before .before .before .before .swap .ensures) at (sym (c .before .before .before .before .before .before .feed-number .ensures)) in
-    let t = simp (c .before .before .before .before .before .before .before .before .before .placed .ensures, c .before .before .before .before .before .before .before .before .reset .ensures, c .before .before .before .before .before .before .before .swap .ensures, c .before .before .converged .ensures) at (c .before .if4 .taken) in
-    simp (c .find .ensures, c .before .before .before .before .before .before .before .before .before .placed .ensures, c .before .before .before .before .before .before .before .before .reset .ensures, c .before .before .before .before .before .before .before .swap .ensures, number ∙ c .before .before .before .before .if2 .left, ne-eqb _ _ (c .before .before .before .if3 .left), t)
+    let tested = c .before .before in
+    let filled = tested .before .before .before .before in
+    let t = simp (filled .placed .ensures, tested .before .before .reset .ensures, tested .before .swap .ensures, tested .converged .ensures)
+    at (c .before .if4 .taken) in
+    simp (
+      c .find .ensures,
+      filled .placed .ensures,
+      tested .before .before .reset .ensures,
+      tested .before .swap .ensures,
+      sym (filled .before .before .before .feed-number .ensures) ∙ filled .before .if2 .left,
+      ne-eqb _ _ (tested .before .before .before .if3 .left),
+      t,
+    )
 
 advance-requires : tie.Need-advance-requires
 advance-requires c κs = search needs
 
 add-ask : tie.Need-add-ask
-add-ask c = omega (arith, held (c .before .before .before .before .before .before .before .before .before .before .before .before .before .args .s) _ (c .before .before .before .before .before .before .before .before .swap .result) (λ e. c .before .before .before .before .before .before .if1 .left (c .before .before .before .before .before .before .before .feed-number .ensures ∙ e)) .0)
+add-ask c = omega (
+  arith,
+  held (c .before .before .before .before .before .before .before .before .before .before .before .before .before .args .s) _
+      (λ e. c .before .before .before .before .before .before .before .before .before .if1 .left
+      (c .before .before .before .before .before .before .before .before .before .before .feed-number .ensures ∙ e)) .rounds,
+)
 
 ask-requires-2 : tie.Need-ask-requires-2
 ask-requires-2 c κs = search needs
@@ -90,24 +111,35 @@ ask-requires-2 c κs = search needs
 returns-5 : tie.Need-returns-5
 unfolding feed
 returns-5 c =
-    let number = simp (c .before .before .before .before .before .before .before .before .before .before .before .placed .ensures, c .before .before .before .before .before .before .before .before .before .before .reset .ensures, c .before .before .before .before .before .before .before .before .before .swap .ensures) at (sym (c .before .before .before .before .before .before .before .before .feed-number .ensures)) in
-    let t = simp (c .before .before .before .before .before .before .before .before .before .before .before .placed .ensures, c .before .before .before .before .before .before .before .before .before .before .reset .ensures, c .before .before .before .before .before .before .before .before .before .swap .ensures, c .before .before .before .before .converged .ensures) at (c .before .before .before .if4 .left) in
-    simp (c .ask2 .ensures, c .before .before .advance .ensures, c .before .before .before .before .before .before .before .before .before .before .before .placed .ensures, c .before .before .before .before .before .before .before .before .before .before .reset .ensures, c .before .before .before .before .before .before .before .before .before .swap .ensures, number ∙ c .before .before .before .before .before .before .if2 .left, ne-eqb _ _ (c .before .before .before .before .before .if3 .left), t)
+    let tested = c .before .before .before .before in
+    let filled = tested .before .before .before .before in
+    let t = simp (filled .placed .ensures, tested .before .before .reset .ensures, tested .before .swap .ensures, tested .converged .ensures)
+    at (c .before .before .before .if4 .left) in
+    simp (
+      c .ask2 .ensures,
+      c .before .before .advance .ensures,
+      filled .placed .ensures,
+      tested .before .before .reset .ensures,
+      tested .before .swap .ensures,
+      sym (filled .before .before .before .feed-number .ensures) ∙ filled .before .if2 .left,
+      ne-eqb _ _ (tested .before .before .before .if3 .left),
+      t,
+    )
 
 pub feed-spec : {M : Type 1} → statement M
 feed-spec =
     tie.close
     (tie.spec
-    placed-requires
-    reset-requires
-    swap-requires
     feed-number-requires
     returns
     add-n
     refuse-requires
     returns-2
+    placed-requires
     ask-requires
     returns-3
+    reset-requires
+    swap-requires
     converged-requires
     find-requires
     returns-4

@@ -6,14 +6,14 @@ use Rattle.brent.specs.Feed.{feedNumber}
 use Rattle.brent.proofs.feed_number.Statement.{statement}
 use Rattle.brent.proofs.feed_number.Tie as tie
 
-is-spent-requires : tie.Need-is-spent-requires
-is-spent-requires c κs = search needs
+is-unusable-requires : tie.Need-is-unusable-requires
+is-unusable-requires c κs = search needs
 
 returns : tie.Need-returns
 unfolding feedNumber first
 returns c =
-    let spent = simp (c .before .is-spent .ensures) at (c .if1 .taken) in
-    simp spent
+    let unusable = simp (c .before .is-unusable .ensures) at (c .if1 .taken) in
+    simp unusable
 
 is-finite-requires : tie.Need-is-finite-requires
 is-finite-requires c κs = search needs
@@ -21,9 +21,9 @@ is-finite-requires c κs = search needs
 returns-2 : tie.Need-returns-2
 unfolding feedNumber first
 returns-2 c =
-    let spent = simp (c .before .before .before .is-spent .ensures) at (c .before .before .if1 .left) in
+    let unusable = simp (c .before .before .before .is-unusable .ensures) at (c .before .before .if1 .left) in
     let error = simp (c .before .is-finite .ensures) at (c .if2 .taken) in
-    simp (spent, error)
+    simp (unusable, error)
 
 is-unbracketed-requires : tie.Need-is-unbracketed-requires
 is-unbracketed-requires c κs = search needs
@@ -31,51 +31,26 @@ is-unbracketed-requires c κs = search needs
 returns-3 : tie.Need-returns-3
 unfolding feedNumber first
 returns-3 c =
-    let spent = simp (c .before .before .before .before .before .is-spent .ensures) at (c .before .before .before .before .if1 .left) in
+    let unusable = simp (c .before .before .before .before .before .is-unusable .ensures) at (c .before .before .before .before .if1 .left) in
     let error = simp (c .before .before .before .is-finite .ensures) at (c .before .before .if2 .left) in
     let ends = simp (c .before .is-unbracketed .ensures) at (c .if3 .taken) in
-    simp (spent, error, ends)
+    simp (unusable, error, ends)
 
 returns-4 : tie.Need-returns-4
 unfolding feedNumber first
 returns-4 c =
-    let spent = simp (c .before .before .before .before .before .before .is-spent .ensures) at (c .before .before .before .before .before .if1 .left) in
+    let unusable = simp (c .before .before .before .before .before .before .is-unusable .ensures) at (c .before .before .before .before .before .if1 .left) in
     let error = simp (c .before .before .before .before .is-finite .ensures) at (c .before .before .before .if2 .left) in
     let ends = simp (c .before .before .is-unbracketed .ensures) at (c .before .if3 .left) in
-    simp (spent, error, ends, le-leb _ _ (c .if4 .taken))
-
-is-astray-requires : tie.Need-is-astray-requires
-is-astray-requires c κs = search needs
+    simp (unusable, error, ends, le-leb _ _ (c .if4 .taken))
 
 returns-5 : tie.Need-returns-5
 unfolding feedNumber first
 returns-5 c =
-    let spent = simp (c .before .before .before .before .before .before .before .before .is-spent .ensures) at (c .before .before .before .before .before .before .before .if1 .left) in
-    let error = simp (c .before .before .before .before .before .before .is-finite .ensures) at (c .before .before .before .before .before .if2 .left) in
-    let ends = simp (c .before .before .before .before .is-unbracketed .ensures) at (c .before .before .before .if3 .left) in
-    let answer = simp (c .before .is-astray .ensures) at (c .if5 .taken) in
-    simp (spent, error, ends, lt-leb _ _ (c .before .before .if4 .left), answer)
-
-returns-6 : tie.Need-returns-6
-unfolding feedNumber first
-returns-6 c =
-    let spent = simp (c .before .before .before .before .before .before .before .before .is-spent .ensures) at (c .before .before .before .before .before .before .before .if1 .left) in
-    let error = simp (c .before .before .before .before .before .before .is-finite .ensures) at (c .before .before .before .before .before .if2 .left) in
-    let ends = simp (c .before .before .before .before .is-unbracketed .ensures) at (c .before .before .before .if3 .left) in
-    let answer = simp (c .before .is-astray .ensures) at (c .if5 .left) in
-    simp (spent, error, ends, lt-leb _ _ (c .before .before .if4 .left), answer)
+    let unusable = simp (c .before .before .before .before .before .before .is-unusable .ensures) at (c .before .before .before .before .before .if1 .left) in
+    let error = simp (c .before .before .before .before .is-finite .ensures) at (c .before .before .before .if2 .left) in
+    let ends = simp (c .before .before .is-unbracketed .ensures) at (c .before .if3 .left) in
+    simp (unusable, error, ends, lt-leb _ _ (c .if4 .left))
 
 pub feed-number-spec : {M : Type 1} → statement M
-feed-number-spec =
-    tie.close
-    (tie.spec
-    is-spent-requires
-    returns
-    is-finite-requires
-    returns-2
-    is-unbracketed-requires
-    returns-3
-    returns-4
-    is-astray-requires
-    returns-5
-    returns-6)
+feed-number-spec = tie.close (tie.spec is-unusable-requires returns is-finite-requires returns-2 is-unbracketed-requires returns-3 returns-4 returns-5)
