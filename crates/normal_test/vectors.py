@@ -12,7 +12,7 @@ Published values: M. Abramowitz and I. A. Stegun, Handbook of Mathematical Funct
 checked to the digits given here: within half a unit of the last one, and four last places of the answer more.
 
 A line of stdin is 58 bytes: name (4), '=' for bits or '~' for digits, input, expected, tolerance (16 hexadecimal digits each), a line feed.
-A line that begins with '#' is a comment, as wide as the others.
+1st and 2nd are the two values of cdf_pair; there the last field is the other argument. A line that begins with '#' is a comment, as wide as the others.
 """
 import math
 import pathlib
@@ -145,6 +145,10 @@ INPUTS = {
     + around(2.8284271247461903) + some(8, 24, lambda r: r.uniform(-8, 8)),
 }
 
+# Two values at once: each of these beside each. By the series, by the fraction, either side of where they meet, the fraction's numerator 0 (from
+# 26.6 times the root of 2), mirrored, and the ends.
+PAIRED = [0.0, -0.0, LEAST, 0.3, -1.7, up(2.8284271247461903, -1), 2.8284271247461903, -2.8284271247461903, 5.0, -37.0, 38.0, -40.0, LARGEST, INF, -INF, NAN]
+
 # ---- published digits: function, input, digits as printed, and what they are digits of
 PUBLISHED = [
     ("A&S 1964, table 4.2: ln x, 16 decimals", "ln", [
@@ -182,6 +186,12 @@ def main():
             y = FUNCTIONS[name](x)
             vectors.append(line(name, "=", x, y, 0.0))
             said.append(f"{name:<4} {bits(x):016X} {bits(y):016X} ok\n")
+    vectors.append(comment("cdf_pair: the bits of cdf, of each argument"))
+    for x in PAIRED:
+        for other in PAIRED:
+            for name in ("1st", "2nd"):
+                vectors.append(line(name, "=", x, cdf(x), other))
+                said.append(f"{name:<4} {bits(x):016X} {bits(cdf(x)):016X} ok\n")
     for source, name, rows in PUBLISHED:
         vectors.append(comment(source))
         for text, digits in rows:

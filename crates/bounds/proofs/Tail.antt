@@ -13,22 +13,17 @@ use lib.Ieee.Fits.{down-pos}
 use Rattle.floats.specs.Operators.{decimal, _⊕_, _⊖_, _⊗_, _⊘_, _≺_, if_then_else_}
 use Rattle.floats.proofs.Tests.{by}
 use Rattle.floats.proofs.Signs.{O, below-zero}
-use Rattle.floats.proofs.Minimum.{NotBelow, negative-round}
+use Rattle.floats.proofs.Minimum.{NotBelow}
 use Rattle.floats.proofs.Quotients.{not-below-of}
 use Rattle.floats.proofs.Bounds.{Bounded, Clear, AtLeast, power-short, bounded-more, round-bound, clear-of, bounded-mul, bounded-add, bounded-neg}
 use Rattle.floats.proofs.Bounds.{bounded-sub, bounded-div, least-round, least-add-left, negative-add, negative-square, negative-div, upto-neg}
 use Rattle.normal.specs.Exp.{exp}
 use Rattle.normal.specs.Erfc.{Series, nextTerm, series, fraction, erfcFromZero, erfc}
 use Rattle.normal.specs.Normal.{cdf}
+use Rattle.normal.proofs.Vanish.{two-least, halved-clear}
 use Rattle.bounds.proofs.Exponential.{exp-bound, one-bound, two-bound, half-bound}
 
 -- ---- constants
-two-clear : Clear (decimal 2 1)
-two-clear = clear-of (2 ^ 1075) (decimal 2 1) two-bound (negative-round false 2 1)
-
-two-least : AtLeast (2 ^ 1075) (decimal 2 1)
-two-least = least-round (2 ^ 1075) false 2 1 (power-short 1075 (lit< tt)) (lit< tt) (lit≤ tt)
-
 abbrev front : Float
 front = decimal 11283791670955126 (10 ^ 16)
 
@@ -99,9 +94,7 @@ grown v b c l (suc n) =
     let g = grown v b c l n in
     let jb = level-bound (60 - n) (omega arith) in
     let hb = bounded-div 1080 1075 1080 (decimal (60 - n) 1) (decimal 2 1) (lit< tt) (lit≤ tt) jb two-least in
-    let hc = clear-of (2 ^ 1080) (decimal (60 - n) 1 ⊘ decimal 2 1) hb
-    (negative-div (2 ^ 1075) (decimal (60 - n) 1) (decimal 2 1) (clear-of (2 ^ 1080) (decimal (60 - n) 1) jb (negative-round false (60 - n) 1)) two-clear
-    (pow-pos 1075) two-least) in
+    let hc = halved-clear (60 - n) (omega arith) in
     let qb = bounded-div 1080 1075 1080 (decimal (60 - n) 1 ⊘ decimal 2 1) (fraction v n) (lit< tt) (lit≤ tt) hb (g .least) in
     let qc = clear-of (2 ^ 1080) (decimal (60 - n) 1 ⊘ decimal 2 1 ⊘ fraction v n) qb
     (negative-div (2 ^ 1075) (decimal (60 - n) 1 ⊘ decimal 2 1) (fraction v n) hc (g .clear) (pow-pos 1075) (g .least)) in

@@ -15,7 +15,7 @@ use Rattle.chart.specs.Quotes.{quotes, allInRange}
 use Rattle.chart.specs.Cells.{cell, count}
 use Rattle.chart.specs.Build.{front, table, refusal, numberOf, surface, Builds}
 use Rattle.chart.specs.declared.Built.the-variants.{Surface, Refused}
-use Rattle.chart.proofs.Choice.{split}
+use Rattle.floats.proofs.Tests.{split}
 
 -- 16 and 17
 abbrev pub axesRefusal : ℕ → ℕ → ℕ

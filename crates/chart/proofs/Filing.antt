@@ -10,13 +10,12 @@ use lib.Seq.{getD-set-same, getD-set-other}
 use lib.Ieee.{Float, nan}
 use borrow.Author.Tests.{eqb-true, eq-eqb}
 use Rattle.floats.specs.Operators.{decimal, _⊕_, if_then_else_}
-use Rattle.floats.proofs.Tests.{and-left, and-right, clash}
+use Rattle.floats.proofs.Tests.{and-left, and-right, clash, split}
 use Rattle.grid.specs.Layout.{cellAt}
 use Rattle.chart.specs.Quotes.{Quote, quotes}
 use Rattle.chart.specs.Axis.{place}
-use Rattle.chart.specs.Cells.{Axes, Housed, counted, added}
-use Rattle.chart.specs.Steps.{Filed}
-use Rattle.chart.proofs.Choice.{split}
+use Rattle.chart.specs.Cells.{Axes, counted, added}
+use Rattle.chart.specs.Steps.{OnAxis, OnAxes, Filed}
 use Rattle.chart.proofs.Kept.{quotes-at}
 
 -- no cell counts more quotes than there are
@@ -27,17 +26,17 @@ counted-most x i j (q ∷ qs) =
     let r = counted-most x i j qs in
     split (eqb (place (x .expiries) (q .expiry)) i && eqb (place (x .strikes) (q .strike)) j) (λ t. rw t (omega arith)) (λ t. rw t (omega arith))
 
-housed-drop : (x : Axes) (k : ℕ) (qs : List Quote) → Housed x qs → Housed x (drop k qs)
-housed-drop x zero qs h = h
-housed-drop x (suc k) [] h = tt
-housed-drop x (suc k) (q ∷ qs) h = housed-drop x k qs (h .2)
+placed-drop : (x : Axes) (k : ℕ) (qs : List Quote) → OnAxes x qs → OnAxes x (drop k qs)
+placed-drop x zero qs h = h
+placed-drop x (suc k) [] h = tt
+placed-drop x (suc k) (q ∷ qs) h = placed-drop x k qs (h .2)
 
--- the places of the quote at i
+-- the quote at i has its places
 pub home-of : (K E ks ts vs : List Float) (n i : ℕ) → n ≤ length ks → n ≤ length ts → n ≤ length vs → i < n
-    → Housed (record { strikes = K; expiries = E }) (quotes n ks ts vs) → (place E (getD ts i nan) < length E) × (place K (getD ks i nan) < length K)
+    → OnAxes (record { strikes = K; expiries = E }) (quotes n ks ts vs) → OnAxis E (getD ts i nan) × OnAxis K (getD ks i nan)
 home-of K E ks ts vs n i a b c h m =
     let x : Axes = record { strikes = K; expiries = E } in
-    let q = subst (λ (l : List Quote). Housed x l) (quotes-at ks ts vs n a b c i h) (housed-drop x i (quotes n ks ts vs) m) in
+    let q = subst (λ (l : List Quote). OnAxes x l) (quotes-at ks ts vs n a b c i h) (placed-drop x i (quotes n ks ts vs) m) in
     (q .0, q .1)
 
 module _ (x : Axes) (qs : List Quote) where

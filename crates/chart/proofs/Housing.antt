@@ -11,7 +11,7 @@ use lib.Dec.{ltb, eqb}
 use lib.ListN.{length, getD}
 use lib.Ieee.{Float, nan, isNan}
 use borrow.Author.Tests.{eq-eqb, ne-eqb, ltb-true, ltb-false}
-use Rattle.floats.proofs.Tests.{and-left, and-right}
+use Rattle.floats.proofs.Tests.{and-left, and-right, split}
 use Rattle.limits.specs.Ranges.{isStrike, isExpiry, isVolatility}
 use Rattle.limits.proofs.Ranges.{spot-positive, expiry-positive}
 use Rattle.grid.specs.Readings.{isAxis}
@@ -19,9 +19,9 @@ use Rattle.chart.specs.Quotes.{Quote, inRange, allInRange}
 use Rattle.chart.specs.Axis.{axis, place}
 use Rattle.chart.specs.Cells.{Axes, axes, Housed, counted, count, leftward, rightward, either, source, cell}
 use Rattle.chart.specs.Meaning.{sumTo, allCounts, sourceIn, Meaning}
-use Rattle.chart.proofs.Choice.{split}
-use Rattle.chart.proofs.Ordered.{Mem, Pos, sort-sorted, sort-same}
-use Rattle.chart.proofs.Spread.{placed, axis-spaced, axis-place, axis-member, axis-axis}
+use Rattle.chart.specs.Steps.{Pos, Ascending, OnAxes}
+use Rattle.chart.proofs.Ordered.{Mem, sort-sorted, sort-same}
+use Rattle.chart.proofs.Spread.{placed, axis-spaced, axis-ascends, axis-place, axis-member, axis-axis}
 use Rattle.chart.proofs.Numbers.{mean-number}
 use Rattle.chart.proofs.Filing.{counted-most}
 use Rattle.chart.proofs.Neighbour.{Left, Right, left-is, right-is}
@@ -33,7 +33,7 @@ strikes qs = map (λ (q : Quote). q .strike) qs
 abbrev expiries : List Quote → List Float
 expiries qs = map (λ (q : Quote). q .expiry) qs
 
-strikes-pos : (qs : List Quote) → allInRange qs ≡ true → Pos (strikes qs)
+pub strikes-pos : (qs : List Quote) → allInRange qs ≡ true → Pos (strikes qs)
 unfolding allInRange
 strikes-pos [] h = tt
 strikes-pos (q ∷ qs) h =
@@ -41,7 +41,7 @@ strikes-pos (q ∷ qs) h =
     let two = and-left (isStrike (q .strike) && isExpiry (q .expiry)) (isVolatility (q .volatility)) here in
     (spot-positive (q .strike) (and-left (isStrike (q .strike)) (isExpiry (q .expiry)) two), strikes-pos qs (and-right (inRange q) (allInRange qs) h))
 
-expiries-pos : (qs : List Quote) → allInRange qs ≡ true → Pos (expiries qs)
+pub expiries-pos : (qs : List Quote) → allInRange qs ≡ true → Pos (expiries qs)
 unfolding allInRange
 expiries-pos [] h = tt
 expiries-pos (q ∷ qs) h =
@@ -59,6 +59,22 @@ housed-on xs ys (k ∷ qs) p q f g =
 pub all-housed : (qs : List Quote) → allInRange qs ≡ true → Housed (axes qs) qs
 unfolding axes
 all-housed qs h = housed-on (strikes qs) (expiries qs) qs (strikes-pos qs h) (expiries-pos qs h) (λ z m. m) (λ z m. m)
+
+-- ---- and it is found by halves
+on-axes : (x : Axes) (qs : List Quote) → Ascending (x .strikes) → Ascending (x .expiries) → Pos (strikes qs) → Pos (expiries qs) → Housed x qs → OnAxes x qs
+on-axes x [] a b p q h = tt
+on-axes x (k ∷ qs) a b p q h = (
+  record { ascends = b; above-zero = q .0; inside = h .0 },
+  record { ascends = a; above-zero = p .0; inside = h .1 },
+  on-axes x qs a b (p .1) (q .1) (h .2),
+)
+
+pub all-placed : (qs : List Quote) → allInRange qs ≡ true → OnAxes (axes qs) qs
+unfolding axes
+all-placed qs h =
+    let p = strikes-pos qs h in
+    let q = expiries-pos qs h in
+    on-axes (axes qs) qs (axis-ascends (strikes qs) p) (axis-ascends (expiries qs) q) p q (all-housed qs h)
 
 -- ---- the counts add up
 sum-add : (n : ℕ) (f g : ℕ → ℕ) → sumTo n (λ k. f k + g k) ≡ sumTo n f + sumTo n g

@@ -11,7 +11,7 @@ use lib.Seq.{getD-take, getD-drop, getD-append-add, length-take-le}
 use borrow.Author.Tests.{ltb-true, ltb-false}
 use Rattle.grid.specs.Layout.{cellAt, values, partly}
 use Rattle.chart.specs.Build.{table}
-use Rattle.chart.proofs.Choice.{split}
+use Rattle.floats.proofs.Tests.{split}
 
 length-values : {X : Type 0} (f : ℕ → X) (n k : ℕ) → length (values f n k) ≡ n
 unfolding values

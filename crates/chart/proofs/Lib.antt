@@ -1,4 +1,3 @@
-pub mod Choice
 pub mod Gap
 pub mod Sorting
 pub mod Kept
@@ -13,3 +12,5 @@ pub mod Made
 pub mod Examples
 pub mod Layouts
 pub mod Numbers
+pub mod Twins
+pub mod Halves

@@ -8,27 +8,45 @@ use lib.Seq.{length-take-le}
 use lib.Ieee.{Float}
 use Rattle.chart.specs.Quotes.{quotes}
 use Rattle.chart.specs.Axis.{axis}
-use Rattle.chart.specs.Cells.{Axes, axes, Housed, cell, count}
+use Rattle.chart.specs.Cells.{Axes, axes, cell, count}
+use Rattle.chart.specs.Steps.{Pos, OnAxes}
 use Rattle.chart.specs.Build.{front, table, surface, Builds}
 use Rattle.chart.specs.declared.Built.the-variants.{Surface, Refused}
 use Rattle.chart.proofs.Kept.{strikes-of, expiries-of}
 use Rattle.chart.proofs.BuildChecks.{axesRefusal, Passed, builds-refused, builds-done}
-use Rattle.chart.proofs.Housing.{all-housed}
+use Rattle.chart.proofs.Housing.{strikes-pos, expiries-pos, all-placed}
 
 pub made-size : (K W : List Float) (n : ℕ) → n ≤ length W → take n W ≡ K → n ≡ length K
 made-size K W n h e = sym (length-take-le n W h) ∙ ap (λ (l : List Float). length l) e
 
 module _ {ks ts vs : List Float} {kept : ℕ} {ka ta g : List Float} {c : List ℕ} (P : Passed ks ts vs kept ka ta g c) where
+  -- each column holds as many entries as are kept
+  few-strikes : kept ≤ length ks
+  few-strikes = omega (arith, P .strikes, P .few)
+
+  few-expiries : kept ≤ length ts
+  few-expiries = omega (arith, P .expiries, P .few)
+
+  few-volatilities : kept ≤ length vs
+  few-volatilities = omega (arith, P .volatilities, P .few)
+
+  -- what the axes are made of is finite and above 0
+  pub strikes-positive : Pos (take kept ks)
+  strikes-positive = rw (← strikes-of ks ts vs kept few-strikes few-expiries few-volatilities) (strikes-pos (quotes kept ks ts vs) (P .ranged))
+
+  pub expiries-positive : Pos (take kept ts)
+  expiries-positive = rw (← expiries-of ks ts vs kept few-strikes few-expiries few-volatilities) (expiries-pos (quotes kept ks ts vs) (P .ranged))
+
   -- what the work arrays hold are the axes
   pub strikes-made : (W : List Float) (n : ℕ) → take n W ≡ axis (take kept ks) → take n W ≡ surface ks ts vs kept .strikes
   unfolding axes
   strikes-made W n e =
-      e ∙ ap (λ (l : List Float). axis l) (sym (strikes-of ks ts vs kept (omega (arith, P .strikes, P .few)) (omega (arith, P .expiries, P .few)) (omega (arith, P .volatilities, P .few))))
+      e ∙ ap (λ (l : List Float). axis l) (sym (strikes-of ks ts vs kept few-strikes few-expiries few-volatilities))
 
   pub expiries-made : (W : List Float) (n : ℕ) → take n W ≡ axis (take kept ts) → take n W ≡ surface ks ts vs kept .expiries
   unfolding axes
   expiries-made W n e =
-      e ∙ ap (λ (l : List Float). axis l) (sym (expiries-of ks ts vs kept (omega (arith, P .strikes, P .few)) (omega (arith, P .expiries, P .few)) (omega (arith, P .volatilities, P .few))))
+      e ∙ ap (λ (l : List Float). axis l) (sym (expiries-of ks ts vs kept few-strikes few-expiries few-volatilities))
 
   pub axes-refused : (n m number : ℕ) → n ≡ length (surface ks ts vs kept .strikes) → m ≡ length (surface ks ts vs kept .expiries) → number ≡ axesRefusal n m → (number ≡ 0 → ⊥)
       → Builds ks ts vs kept ka ta g c (Refused number) ka ta g c
@@ -41,8 +59,8 @@ module _ {ks ts vs : List Float} {kept : ℕ} {ka ta g : List Float} {c : List �
     same-axes : _≡_ {A = Axes} (record { strikes = K; expiries = E }) (surface ks ts vs kept)
     same-axes = λ i. record { strikes = hK i; expiries = hE i }
 
-    pub made-housed : Housed (record { strikes = K; expiries = E }) (quotes kept ks ts vs)
-    made-housed = subst (λ (x : Axes). Housed x (quotes kept ks ts vs)) (sym same-axes) (all-housed (quotes kept ks ts vs) (P .ranged))
+    pub made-placed : OnAxes (record { strikes = K; expiries = E }) (quotes kept ks ts vs)
+    made-placed = subst (λ (x : Axes). OnAxes x (quotes kept ks ts vs)) (sym same-axes) (all-placed (quotes kept ks ts vs) (P .ranged))
 
     pub made-built : (ka' ta' g' : List Float) (c' : List ℕ) (n m : ℕ) → n ≡ length K → m ≡ length E → axesRefusal n m ≡ 0
         → ka' ≡ front K ka → ta' ≡ front E ta

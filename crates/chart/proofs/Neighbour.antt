@@ -15,7 +15,7 @@ use borrow.Author.Tests.{lt-ltb, le-ltb, ltb-true, ltb-false, eqb-true, eqb-fals
 use Rattle.floats.specs.Operators.{decimal, _⊘_, if_then_else_}
 use Rattle.chart.specs.Cells.{leftward, rightward, either, source}
 use Rattle.chart.specs.Steps.{held}
-use Rattle.chart.proofs.Choice.{split}
+use Rattle.floats.proofs.Tests.{split}
 
 source-own : (c : ℕ → ℕ) (w j : ℕ) → 0 < c j → source c w j ≡ j
 unfolding source

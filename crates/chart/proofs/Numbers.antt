@@ -12,13 +12,12 @@ use lib.Ieee.Exact.{round-exact}
 use lib.Ieee.Positive.{positive, positive-of-value}
 use borrow.Author.Tests.{ne-eqb}
 use Rattle.floats.specs.Operators.{decimal, _⊕_, _⊘_}
-use Rattle.floats.proofs.Tests.{and-left, and-right}
+use Rattle.floats.proofs.Tests.{and-left, and-right, split}
 use Rattle.limits.specs.Ranges.{isStrike, isExpiry, isVolatility}
 use Rattle.limits.proofs.Ranges.{volatility-positive}
 use Rattle.chart.specs.Quotes.{Quote, inRange, allInRange}
 use Rattle.chart.specs.Axis.{place}
 use Rattle.chart.specs.Cells.{Axes, counted, added}
-use Rattle.chart.proofs.Choice.{split}
 
 -- a number, and the sign is clear
 abbrev plus : Float → Bool

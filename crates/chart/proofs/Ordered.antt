@@ -1,10 +1,14 @@
 -- Sorting values that are finite and above 0: the result is sorted, and a permutation. Assumes nothing.
-use Prim.Native.Nat.{_*_}
+use Prim.Native.Nat.{ℕ, zero, suc, _*_, _≤_, _<_}
 use mathlib.Core.Path.{_≡_, refl, sym, subst}
 use mathlib.Core.Bool.{true, false}
 use mathlib.Core.Logic.{_⊎_, inl, inr, ⊎-map}
 use mathlib.Core.List.{List, [], _∷_, _++_, append-nil, List·Permᴰ, List·Permᴰ·cons, List·Permᴰ·swap, List·Permᴰ·trans, Permᴰ·refl, Permᴰ·symm, Permᴰ·append-right, Permᴰ·middle}
+use native.Mathlib.Nat.{le-of-suc-le-suc}
+use native.Mathlib.Omega.{arith}
 use lib.Dec.{T}
+use lib.ListN.{length, take, getD}
+use lib.Seq.{getD-take, length-take-le}
 use lib.Ieee.{Float, nan, inf, fin, lt, up, down}
 use lib.Ieee.Positive.{positive}
 use borrow.Author.Tests.{le-ltb}
@@ -12,17 +16,13 @@ use Rattle.floats.specs.Operators.{_≺_}
 use Rattle.floats.proofs.Order.{Under, under-trans, under-of-lt, under-of-not-lt}
 use Rattle.chart.specs.Axis.{insert, sortedInto, sort}
 use Rattle.chart.specs.Meaning.{NoneBelow, Sorted}
-use Rattle.chart.proofs.Choice.{split}
+use Rattle.chart.specs.Steps.{Pos, Ascending}
+use Rattle.floats.proofs.Tests.{split}
 
 -- a member of a list
 abbrev pub Mem : Float → List Float → Type 0
 Mem x [] = ⊥
 Mem x (y ∷ ys) = (x ≡ y) ⊎ Mem x ys
-
--- all are finite and above 0
-abbrev pub Pos : List Float → Type 0
-Pos [] = Unit {0}
-Pos (x ∷ xs) = T (positive x) × Pos xs
 
 -- k is at most each of the list, and so for each of an ordered list and those after it
 abbrev pub Over : Float → List Float → Type 0
@@ -32,6 +32,14 @@ Over k (x ∷ xs) = Under k x × Over k xs
 abbrev pub Ordered : List Float → Type 0
 Ordered [] = Unit {0}
 Ordered (x ∷ xs) = Over x xs × Ordered xs
+
+pos-in : (xs : List Float) (i : ℕ) → Pos xs → i < length xs → T (positive (getD xs i nan))
+pos-in [] i p h = absurd (omega arith)
+pos-in (x ∷ xs) zero p h = p .0
+pos-in (x ∷ xs) (suc i) p h = pos-in xs i (p .1) (le-of-suc-le-suc h)
+
+pub pos-at : (xs : List Float) (n i : ℕ) → Pos (take n xs) → n ≤ length xs → i < n → T (positive (getD xs i nan))
+pos-at xs n i p h k = subst (λ (x : Float). T (positive x)) (getD-take n xs i nan k) (pos-in (take n xs) i p (simp length-take-le (omega arith)))
 
 over-trans : (j k : Float) (xs : List Float) → Under j k → Over k xs → Over j xs
 over-trans j k [] h o = tt
@@ -145,7 +153,7 @@ pub mem-sort : (z : Float) (xs : List Float) → Mem z (sort xs) → Mem z xs
 mem-sort z xs m = elim (mem-into z [] xs m) [ inl n ↦ absurd n | inr n ↦ n ]
 
 -- ---- as the float tests say it
-not-lt-of-under : (x y : Float) → T (positive x) → T (positive y) → Under x y → y ≺ x ≡ false
+pub not-lt-of-under : (x y : Float) → T (positive x) → T (positive y) → Under x y → y ≺ x ≡ false
 unfolding lt
 not-lt-of-under nan y p q h = absurd p
 not-lt-of-under (inf s) y p q h = absurd p
@@ -159,9 +167,26 @@ none-below : (x : Float) (ys : List Float) → T (positive x) → Pos ys → Ove
 none-below x [] p q o = tt
 none-below x (y ∷ ys) p q o = (not-lt-of-under x y p (q .0) (o .0), none-below x ys p (q .1) (o .1))
 
-sorted-of : (xs : List Float) → Pos xs → Ordered xs → Sorted xs
+pub sorted-of : (xs : List Float) → Pos xs → Ordered xs → Sorted xs
 sorted-of [] p o = tt
 sorted-of (x ∷ xs) p o = (none-below x xs (p .0) (p .1) (o .0), sorted-of xs (p .1) (o .1))
 
 pub sort-sorted : (xs : List Float) → Pos xs → Sorted (sort xs)
 sort-sorted xs p = sorted-of (sort xs) (sort-pos xs p) (sort-ordered xs p)
+
+-- ---- and back: a list that ascends stays so when a value is put in its place
+over-of : (x : Float) (ys : List Float) → T (positive x) → Pos ys → NoneBelow x ys → Over x ys
+over-of x [] p q n = tt
+over-of x (y ∷ ys) p q n = (under-of-not-lt y x (q .0) p (n .0), over-of x ys p (q .1) (n .1))
+
+pub ordered-of : (xs : List Float) → Pos xs → Sorted xs → Ordered xs
+ordered-of [] p s = tt
+ordered-of (x ∷ xs) p s = (over-of x xs (p .0) (p .1) (s .0), ordered-of xs (p .1) (s .1))
+
+pub ascending-insert : (x : Float) (ys : List Float) → T (positive x) → Ascending ys → Ascending (insert x ys)
+ascending-insert x ys p a =
+    let q = insert-pos x ys p (a .positives) in
+    record {
+      positives = q;
+      sorted = sorted-of (insert x ys) q (insert-ordered x ys p (a .positives) (ordered-of ys (a .positives) (a .sorted)));
+    }

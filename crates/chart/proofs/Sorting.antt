@@ -1,5 +1,5 @@
 -- Insertion sort and the thinning of a sorted list, a step at a time. Assumes nothing.
-use Prim.Native.Nat.{ℕ, suc, zero, _+_, _-_, _≤_, _<_}
+use Prim.Native.Nat.{ℕ, suc, zero, _+_, _≤_, _<_}
 use mathlib.Core.Path.{_≡_, refl, _∙_, ap}
 use mathlib.Core.Bool.{true, false}
 use mathlib.Core.List.{List, [], _∷_, _++_, append-assoc, append-nil}
@@ -12,12 +12,13 @@ use Rattle.floats.specs.Operators.{_≺_, _⊖_}
 use Rattle.grid.specs.Search.{firstWhere}
 use Rattle.grid.proofs.First.{first-most}
 use Rattle.chart.specs.Axis.{insert, sortedInto, keptAfter, thinned, hair}
-use Rattle.chart.proofs.Choice.{split}
+use Rattle.floats.proofs.Tests.{split}
 
-abbrev above : Float → List Float → ℕ
+-- how many values stand before the first one above x
+abbrev pub above : Float → List Float → ℕ
 above x ys = firstWhere (λ y. x ≺ y) ys
 
-insert-split : (x : Float) (ys : List Float) → insert x ys ≡ take (above x ys) ys ++ x ∷ drop (above x ys) ys
+pub insert-split : (x : Float) (ys : List Float) → insert x ys ≡ take (above x ys) ys ++ x ∷ drop (above x ys) ys
 unfolding firstWhere insert
 insert-split x [] = refl
 insert-split x (y ∷ ys) = split (x ≺ y) (λ e. rw e) (λ e. rw e (ap (λ (l : List Float). y ∷ l) (insert-split x ys)))
@@ -37,18 +38,22 @@ insert-gap a n p x h e =
     let m : p ≤ n = place-most a n p x h e in
     rw (insert-split, ← e, take-take p n a m, append-assoc)
 
-pub sort-step : (a xs : List Float) (i n : ℕ) → i < n → n ≤ length a → n ≤ length xs
-    → sortedInto (take (i + 1) (insert (getD xs i nan) (take i a) ++ drop (suc i) a)) (drop (i + 1) (take n xs)) ≡ sortedInto (take i a) (drop i (take n xs))
-unfolding sortedInto
-sort-step a xs i n h k l =
-    let j : i ≤ length a = omega arith in
-    let u : i < length (take n xs) = simp length-take-le (omega arith) in
-    let s : length (insert (getD xs i nan) (take i a)) ≡ suc i = length-insert _ _ ∙ ap suc (length-take-le i a j) in
-    rw (add-one, take-at (insert (getD xs i nan) (take i a)) (drop (suc i) a) (suc i) s, drop-cons (take n xs) i nan u, getD-take)
+-- what the gap filled gives, of the values in use
+pub insert-front : (a : List Float) (n : ℕ) (x : Float) → n ≤ length a → take (n + 1) (insert x (take n a) ++ drop (suc n) a) ≡ insert x (take n a)
+insert-front a n x h =
+    let s : length (insert x (take n a)) ≡ suc n = length-insert _ _ ∙ ap suc (length-take-le n a h) in
+    rw (add-one, take-at (insert x (take n a)) (drop (suc n) a) (suc n) s)
 
-pub sort-end : (a xs : List Float) (i n : ℕ) → n ≤ i → n ≤ length xs → sortedInto (take i a) (drop i (take n xs)) ≡ take i a
+pub sort-step : (ys xs : List Float) (i n : ℕ) → i < n → n ≤ length xs
+    → sortedInto (insert (getD xs i nan) ys) (drop (i + 1) (take n xs)) ≡ sortedInto ys (drop i (take n xs))
 unfolding sortedInto
-sort-end a xs i n h k =
+sort-step ys xs i n h l =
+    let u : i < length (take n xs) = simp length-take-le (omega arith) in
+    rw (add-one, drop-cons (take n xs) i nan u, getD-take)
+
+pub sort-end : (ys xs : List Float) (i n : ℕ) → n ≤ i → n ≤ length xs → sortedInto ys (drop i (take n xs)) ≡ ys
+unfolding sortedInto
+sort-end ys xs i n h k =
     let q : length (take n xs) ≤ i = simp length-take-le (omega arith) in
     rw (drop-of-length-le (take n xs) q)
 
@@ -69,7 +74,8 @@ module _ (a : List Float) (i n : ℕ) (last : Float) (h : i < n) (k : n ≤ leng
   thin-drop e = rw (at-i, e, add-one)
 
   pub thin-keep : (w : ℕ) → w ≤ i → getD a i nan ⊖ last ≺ hair ≡ false
-      → take (w + 1) (set a w (getD a i nan)) ++ keptAfter (getD a i nan) (drop (i + 1) (take n (set a w (getD a i nan)))) ≡ take w a ++ keptAfter last (drop i (take n a))
+      → take (w + 1) (set a w (getD a i nan)) ++ keptAfter (getD a i nan) (drop (i + 1) (take n (set a w (getD a i nan))))
+      ≡ take w a ++ keptAfter last (drop i (take n a))
   unfolding keptAfter
   thin-keep w m e =
       let q : w < length a = omega arith in

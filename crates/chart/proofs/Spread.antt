@@ -17,14 +17,14 @@ use lib.Ieee.Positive.{positive, num, den, den-pos, cross→le, sub-anti, positi
 use borrow.Author.Tests.{ltb-true, lt-ltb}
 use Rattle.floats.specs.Operators.{_⊖_, _≺_, _≼_}
 use Rattle.floats.specs.Values.{magnitude, finite}
-use Rattle.floats.proofs.Tests.{clash, or-le}
+use Rattle.floats.proofs.Tests.{clash, or-le, split}
 use Rattle.floats.proofs.Order.{Under, under-trans, under-of-not-lt, sub-down, sub-either}
 use Rattle.grid.specs.Search.{firstWhere}
 use Rattle.grid.specs.Readings.{ascends, isAxis}
 use Rattle.chart.specs.Axis.{hair, keptAfter, thinned, axis, near, place}
 use Rattle.chart.specs.Meaning.{SpacedAfter, Spaced}
-use Rattle.chart.proofs.Choice.{split}
-use Rattle.chart.proofs.Ordered.{Mem, Pos, Over, Ordered, sort-pos, sort-ordered, sort-mem, mem-sort}
+use Rattle.chart.specs.Steps.{Pos, Ascending}
+use Rattle.chart.proofs.Ordered.{Mem, Over, Ordered, sort-pos, sort-ordered, sort-mem, mem-sort, sorted-of}
 
 -- ---- near and far
 -- a value less than a hair above the last one kept belongs to it
@@ -33,7 +33,7 @@ unfolding near
 near-below x y p q h k = rw (sub-either x y p q h) k
 
 -- a difference of nothing is under a hair
-no-gap : (x y : Float) → T (positive x) → T (positive y) → Under y x → Under x y → x ⊖ y ≺ hair ≡ true
+pub no-gap : (x y : Float) → T (positive x) → T (positive y) → Under y x → Under x y → x ⊖ y ≺ hair ≡ true
 no-gap x y p q h k =
     let z : num x * den y - num y * den x ≡ 0 = omega arith in
     let c : 0 < den x * den y = mul-pos (den-pos x) (den-pos y) in
@@ -56,7 +56,7 @@ strict x y z p q r P h k =
     (lt-of-lt-of-le (mul-lt-mul-of-pos-right k P) (le-of-eq (mul-right-comm z q p))))))
 
 -- of two magnitudes, the smaller is under a hair where the larger is
-under-hair : (x y : Float) → T (magnitude x ≼ magnitude y) → magnitude y ≺ hair ≡ true → magnitude x ≺ hair ≡ true
+pub under-hair : (x y : Float) → T (magnitude x ≼ magnitude y) → magnitude y ≺ hair ≡ true → magnitude x ≺ hair ≡ true
 unfolding le lt magnitude round
 under-hair nan y h k = absurd h
 under-hair (inf s) nan h k = absurd h
@@ -69,7 +69,7 @@ under-hair (fin s m e) (fin t n d) h k =
     (or-le (m * up e * down d) (n * up d * down e) true h) (ltb-true (n * up d * den hair) (num hair * down d) k))
 
 -- a value that is no hair below x is far from it, and so is every value below that one
-far : (j k x : Float) → T (positive j) → T (positive k) → T (positive x) → Under j k → Under k x → x ⊖ k ≺ hair ≡ false → near j x ≡ false
+pub far : (j k x : Float) → T (positive j) → T (positive k) → T (positive x) → Under j k → Under k x → x ⊖ k ≺ hair ≡ false → near j x ≡ false
 unfolding near
 far j k x p q r h g n =
     let jx = under-trans j k x h g in
@@ -173,6 +173,33 @@ thinned-spread (x ∷ xs) p s =
 
 axis-pos : (xs : List Float) → Pos xs → Pos (axis xs)
 axis-pos xs p = thinned-spread _ (sort-pos xs p) (sort-ordered xs p) .1
+
+kept-over : (k : Float) (xs : List Float) (j : Float) → Over j xs → Over j (keptAfter k xs)
+unfolding keptAfter
+kept-over k [] j o = tt
+kept-over k (y ∷ ys) j o =
+    let a = kept-over k ys j (o .1) in
+    let b = kept-over y ys j (o .1) in
+    split (y ⊖ k ≺ hair) (λ t. rw t a) (λ t. rw t (o .0, b))
+
+kept-ordered : (k : Float) (xs : List Float) → Ordered xs → Ordered (keptAfter k xs)
+unfolding keptAfter
+kept-ordered k [] s = tt
+kept-ordered k (y ∷ ys) s =
+    let a = kept-ordered k ys (s .1) in
+    let b = kept-ordered y ys (s .1) in
+    split (y ⊖ k ≺ hair) (λ t. rw t a) (λ t. rw t (kept-over y ys y (s .0), b))
+
+thinned-ordered : (xs : List Float) → Ordered xs → Ordered (thinned xs)
+unfolding thinned
+thinned-ordered [] s = tt
+thinned-ordered (x ∷ xs) s = (kept-over x xs x (s .0), kept-ordered x xs (s .1))
+
+pub axis-ascends : (xs : List Float) → Pos xs → Ascending (axis xs)
+axis-ascends xs p = record {
+  positives = axis-pos xs p;
+  sorted = sorted-of (axis xs) (axis-pos xs p) (thinned-ordered _ (sort-ordered xs p));
+}
 
 -- ---- an axis value's place is its own
 far-at : (a : Float) (l : List Float) (i : ℕ) (d : Float) → Far a l → i < length l → near a (getD l i d) ≡ false

@@ -15,8 +15,8 @@ use lib.Ieee.{Float, nan, inf, fin, binary64, up, down, unlike, neg, add, sub, m
 use lib.Ieee.Fits.{up-pos, down-pos}
 use lib.Ieee.Order.{round-mono}
 use lib.Ieee.Exact.{HasValue}
-use lib.Ieee.Positive.{positive, le→cross, first-pos, through}
-use Rattle.floats.specs.Operators.{_⊕_, _⊖_, _⊗_, _⊘_, _≼_}
+use lib.Ieee.Positive.{positive, above, le→cross, first-pos, through}
+use Rattle.floats.specs.Operators.{decimal, _⊕_, _⊖_, _⊗_, _⊘_, _≺_, _≼_}
 use Rattle.floats.specs.Values.{magnitude, negative, finite}
 use Rattle.floats.proofs.Tests.{by, or-le}
 use Rattle.floats.proofs.Rounding.{magnitude-round}
@@ -24,6 +24,7 @@ use Rattle.floats.proofs.Whole.{significand-lt, value-small, pow-le-bac
 use Rattle.floats.proofs.Short.{Short, AtMost, most-round, short-value}
 use Rattle.floats.proofs.Minimum.{negative-round}
 use Rattle.floats.proofs.Quotients.{divided}
+use Rattle.floats.proofs.Between.{sub-signed}
 
 -- ---- the bounds
 abbrev pub Bounded : ℕ → Float → Type 0
@@ -84,7 +85,8 @@ both-finite i j P f (fin s m e) nan a b = absurd b
 both-finite i j P f (fin s m e) (inf t) a b = absurd b
 both-finite i j P f (fin s m e) (fin t n d) a b = f s m e t n d a b
 
-both-clear : (P : Float → Float → Type 0) → ((m : ℕ) (e : ℤ) (n : ℕ) (d : ℤ) → P (fin false m e) (fin false n d)) → (x y : Float) → Clear x → Clear y → P x y
+pub both-clear : (P : Float → Float → Type 0) → ((m : ℕ) (e : ℤ) (n : ℕ) (d : ℤ) → P (fin false m e) (fin false n d)) → (x y : Float) → Clear x → Clear y
+    → P x y
 both-clear P f nan y p q = absurd p
 both-clear P f (inf s) y p q = absurd p
 both-clear P f (fin true m e) y p q = absurd (true≢false p)
@@ -99,6 +101,13 @@ positive-clear (inf s) p = p
 positive-clear (fin true m e) p = absurd p
 positive-clear (fin false m e) p = refl
 
+-- the smaller less the larger has its sign set
+pub sub-negative : (x y : Float) → T (positive x) → T (positive y) → x ≺ y ≡ true → negative (x ⊖ y) ≡ true
+unfolding lt
+sub-negative x y p q =
+    both-clear (λ x y. x ≺ y ≡ true → negative (x ⊖ y) ≡ true) (λ m e n d h. rw (sub-signed m e n d) (negative-round _ _ _ ∙ h)) x y
+    (positive-clear x p) (positive-clear y q)
+
 -- ---- product, sum, difference, quotient
 powers : (i j k l : ℕ) → i + j ≤ k + l → 2 ^ i * 2 ^ j ≤ 2 ^ k * 2 ^ l
 powers i j k l h = le-trans (le-of-eq (sym (pow-add 2 i j))) (le-trans (pow-mono {i = i + j} {j = k + l} h) (le-of-eq (pow-add 2 k l)))
@@ -108,13 +117,16 @@ times A B K I J P a b Z h l g =
     le-of-mul-le-mul-right {k = K}
     (let p = mul-le-mul h l in let q = mul-le-mul-right (a * b) g in let z : A * B * K * K ≤ P * (a * b) * K = omega arith in z) Z
 
-pub bounded-mul : (i j k : ℕ) (x y : Float) → k < 2098 → i + j ≤ k + 1074 → Bounded i x → Bounded j y → Bounded k (x ⊗ y)
+pub most-mul : (w v u : ℕ) (x y : Float) → Short u → w * v ≤ u * 2 ^ 1074 → AtMost w x → AtMost v y → AtMost u (x ⊗ y)
 unfolding mul
-bounded-mul i j k x y h g =
-    both-finite (2 ^ i) (2 ^ j) (λ x y. Bounded k (x ⊗ y))
-    (λ s m e t n d a b. round-bound k (unlike s t) (m * up e * (n * up d)) (down e * down d) h (mul-pos (down-pos e) (down-pos d))
-    (times (m * up e) (n * up d) (2 ^ 1074) (2 ^ i) (2 ^ j) (2 ^ k) (down e) (down d) (pow-pos 1074) a b (powers i j k 1074 g)))
+most-mul w v u x y S g =
+    both-finite w v (λ x y. AtMost u (x ⊗ y))
+    (λ s m e t n d a b. most-round u (unlike s t) (m * up e * (n * up d)) (down e * down d) S (mul-pos (down-pos e) (down-pos d))
+    (times (m * up e) (n * up d) (2 ^ 1074) w v u (down e) (down d) (pow-pos 1074) a b g))
     x y
+
+pub bounded-mul : (i j k : ℕ) (x y : Float) → k < 2098 → i + j ≤ k + 1074 → Bounded i x → Bounded j y → Bounded k (x ⊗ y)
+bounded-mul i j k x y h g = most-mul (2 ^ i) (2 ^ j) (2 ^ k) x y (power-short k h) (powers i j k 1074 g)
 
 -- a sum is one rounding, of a + b at most
 sum-by : (P : Float → Type 0) (s : Bool) (a : ℕ) (t : Bool) (b c : ℕ) → ((u : Bool) (n : ℕ) → n ≤ a + b → P (round binary64 u n c))
@@ -171,19 +183,22 @@ over A K I a L b B P Z h l g =
 no-zero : (p d u k : ℕ) → 0 < p * d → p * d ≤ 0 * u * k → ⊥
 no-zero p d u k h l = let z : 0 * u * k ≡ 0 = simp zero-mul in omega arith
 
-pub bounded-div : (i l k : ℕ) (x y : Float) → k < 2098 → i + 1074 ≤ k + l → Bounded i x → AtLeast (2 ^ l) y → Bounded k (x ⊘ y)
-bounded-div i l k nan y h g a b = absurd a
-bounded-div i l k (inf s) y h g a b = absurd a
-bounded-div i l k (fin s m e) nan h g a b = absurd b
-bounded-div i l k (fin s m e) (inf t) h g a b = unfold div in nothing (2 ^ 1074) (2 ^ k)
+pub most-div : (w l u : ℕ) (x y : Float) → Short u → 0 < l → w * 2 ^ 1074 ≤ u * l → AtMost w x → AtLeast l y → AtMost u (x ⊘ y)
+most-div w l u nan y S Z g a b = absurd a
+most-div w l u (inf s) y S Z g a b = absurd a
+most-div w l u (fin s m e) nan S Z g a b = absurd b
+most-div w l u (fin s m e) (inf t) S Z g a b = unfold div in nothing (2 ^ 1074) u
   where
     nothing : (k w : ℕ) → 0 * 1 * k ≤ w * 1
     nothing k w = simp zero-mul zero-le
-bounded-div i l k (fin s m e) (fin t zero d) h g a b = absurd (no-zero (2 ^ l) (down d) (up d) (2 ^ 1074) (mul-pos (pow-pos l) (down-pos d)) b)
-bounded-div i l k (fin s m e) (fin t (suc n) d) h g a b =
-    subst (Bounded k) (sym (divided s m e t n d))
-    (round-bound k (unlike s t) (m * up e * down d) (suc n * up d * down e) h (mul-pos (mul-pos (zero-lt-suc n) (up-pos d)) (down-pos e))
-    (over (m * up e) (2 ^ 1074) (2 ^ i) (down e) (2 ^ l) (down d) (suc n * up d) (2 ^ k) (pow-pos 1074) a b (powers i 1074 k l g)))
+most-div w l u (fin s m e) (fin t zero d) S Z g a b = absurd (no-zero l (down d) (up d) (2 ^ 1074) (mul-pos Z (down-pos d)) b)
+most-div w l u (fin s m e) (fin t (suc n) d) S Z g a b =
+    subst (AtMost u) (sym (divided s m e t n d))
+    (most-round u (unlike s t) (m * up e * down d) (suc n * up d * down e) S (mul-pos (mul-pos (zero-lt-suc n) (up-pos d)) (down-pos e))
+    (over (m * up e) (2 ^ 1074) w (down e) l (down d) (suc n * up d) u (pow-pos 1074) a b g))
+
+pub bounded-div : (i l k : ℕ) (x y : Float) → k < 2098 → i + 1074 ≤ k + l → Bounded i x → AtLeast (2 ^ l) y → Bounded k (x ⊘ y)
+bounded-div i l k x y h g = most-div (2 ^ i) (2 ^ l) (2 ^ k) x y (power-short k h) (pow-pos l) (powers i 1074 k l g)
 
 -- ---- lower bounds
 least-of-le : (w : ℕ) (x y : Float) → HasValue y false w (2 ^ 1074) → T (y ≼ magnitude x) → AtLeast w x
@@ -286,13 +301,20 @@ negative-div w x y = both-clear (λ x y. 0 < w → AtLeast w y → negative (x �
     at m e zero d z h = absurd (no-zero w (down d) (up d) (2 ^ 1074) (mul-pos z (down-pos d)) h)
     at m e (suc n) d z h = ap negative (divided false m e false n d) ∙ negative-round false (m * up e * down d) (suc n * up d * down e)
 
+pub above-of : (w : ℕ) (x : Float) → 0 < w → AtLeast w x → negative x ≡ false → T (above x)
+unfolding negative
+above-of w nan z h k = h
+above-of w (inf true) z h k = absurd (true≢false k)
+above-of w (inf false) z h k = tt
+above-of w (fin true m e) z h k = absurd (true≢false k)
+above-of w (fin false m e) z h k = lt→ltb 0 m (first-pos m (up e) (first-pos (m * up e) (2 ^ 1074) (lt-of-lt-of-le (mul-pos z (down-pos e)) h)))
+
 pub positive-of : (w v : ℕ) (x : Float) → 0 < w → AtLeast w x → AtMost v x → negative x ≡ false → T (positive x)
 unfolding negative
-positive-of w v nan z h l k = absurd h
-positive-of w v (inf s) z h l k = absurd l
+positive-of w v nan z h l k = h
+positive-of w v (inf s) z h l k = l
 positive-of w v (fin true m e) z h l k = absurd (true≢false k)
-positive-of w v (fin false m e) z h l k =
-    lt→ltb 0 m (first-pos m (up e) (first-pos (m * up e) (2 ^ 1074) (lt-of-lt-of-le (mul-pos z (down-pos e)) h)))
+positive-of w v (fin false m e) z h l k = above-of w (fin false m e) z h k
 
 -- ---- a bound of the values above 0 alone
 pub upto-of-most : (w : ℕ) (x : Float) → AtMost w x → Upto w x
@@ -331,9 +353,7 @@ upto-mul w v u z (fin s m e) (fin true n d) S g h c b a = absurd (true≢false c
 upto-mul w v u z (fin true m e) (fin false n d) S g h c b a =
     upto-negative u z (round binary64 true (m * up e * (n * up d)) (down e * down d)) a (negative-round true (m * up e * (n * up d)) (down e * down d))
 upto-mul w v u z (fin false m e) (fin false n d) S g h c b a =
-    upto-of-most u (round binary64 false (m * up e * (n * up d)) (down e * down d))
-    (most-round u false (m * up e * (n * up d)) (down e * down d) S (mul-pos (down-pos e) (down-pos d))
-    (times (m * up e) (n * up d) (2 ^ 1074) w v u (down e) (down d) (pow-pos 1074) h b g))
+    upto-of-most u (round binary64 false (m * up e * (n * up d)) (down e * down d)) (most-mul w v u (fin false m e) (fin false n d) S g h b)
 
 pub upto-add : (w v u z : ℕ) (x y : Float) → Short u → w + v ≤ u → Upto w x → Clear y → AtMost v y → AtMost z (x ⊕ y) → Upto u (x ⊕ y)
 unfolding add
@@ -399,6 +419,10 @@ pub int-bound : (z : ℤ) → natAbs z ≤ 2048 → Bounded 1085 (ofInt binary64
 unfolding ofInt
 int-bound (pos n) h = round-bound 1085 false n 1 (lit< tt) (lit< tt) (few-units n (2 ^ 1074) h)
 int-bound (negsuc n) h = round-bound 1085 true (suc n) 1 (lit< tt) (lit< tt) (few-units (suc n) (2 ^ 1074) h)
+
+pub whole-clear : (n : ℕ) → n ≤ 2048 → Clear (decimal n 1)
+unfolding ofInt
+whole-clear n h = clear-of (2 ^ 1085) (decimal n 1) (int-bound (pos n) h) (negative-round false n 1)
 
 -- ---- a difference from any f64: at most the largest, 2^1024 - 2^971, which a bounded value does not carry beyond it
 abbrev largest : ℕ

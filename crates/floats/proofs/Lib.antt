@@ -9,3 +9,5 @@ pub mod Minimum
 pub mod Quotients
 pub mod Between
 pub mod Bounds
+pub mod Above
+pub mod Absorb

@@ -1,18 +1,18 @@
 -- The order of floats that are finite and above 0, as cross products of whole numbers, and the operations that keep it. Assumes nothing.
 use mathlib.Core.Path.{_≡_, refl, sym, ap, _∙_, subst}
-use Prim.Native.Nat.{ℕ, zero, suc, _+_, _-_, _*_, _^_, _≤_, _<_}
-use native.Mathlib.Nat.{le-refl, le-of-lt, mul-pos, mul-comm, mul-le-mul-right}
+use Prim.Native.Nat.{ℕ, _+_, _-_, _*_, _≤_, _<_}
+use native.Mathlib.Nat.{le-refl, le-of-lt, mul-pos, mul-comm, mul-sub, mul-le-mul-right}
 use native.Mathlib.Omega.{arith}
-use mathlib.Core.Bool.{Bool, true, false, not, cond, true≢false}
-use lib.IntN.{ℤ, pos, negsuc}
-use lib.Dec.{T, ltb, ltb→lt, nltb→le}
+use mathlib.Core.Bool.{Bool, true, false, cond, true≢false}
+use lib.IntN.{ℤ}
+use lib.Dec.{T, ltb, ltb→lt}
 use borrow.Author.Tests.{ltb-true, ltb-false, le-ltb}
 use lib.Ieee.{Float, nan, inf, fin, Format, binary64, up, down, round, sum, add, sub, lt, le}
 use lib.Ieee.Order.{round-mono}
 use lib.Ieee.Positive.{num, den, positive, den-pos, le→cross, cross→le, through}
 use Rattle.floats.specs.Operators.{_≺_, _≼_, _⊖_}
 use Rattle.floats.specs.Values.{magnitude}
-use Rattle.floats.proofs.Rounding.{magnitude-sub, magnitude-round}
+use Rattle.floats.proofs.Rounding.{magnitude-sub}
 
 -- x is at most y, both finite and above 0
 abbrev pub Under : Float → Float → Type 0
@@ -126,3 +126,22 @@ sub-up (fin false m e) (fin false n d) p q h =
 
 pub sub-either : (x y : Float) → T (positive x) → T (positive y) → Under y x → magnitude (y ⊖ x) ≡ x ⊖ y
 sub-either x y p q h = sub-up x y p q h ∙ sym (sub-down x y p q h)
+
+-- X / dx - Y / dy ≤ Z / dz - Y / dy for X / dx ≤ Z / dz
+further : (X dx Y dy Z dz : ℕ) → X * dz ≤ Z * dx → (X * dy - Y * dx) * (dz * dy) ≤ (Z * dy - Y * dz) * (dx * dy)
+further X dx Y dy Z dz h =
+    rw (times (X * dy) (Y * dx) (dz * dy), times (Z * dy) (Y * dz) (dx * dy))
+    (less (dz * dy * (X * dy)) (dz * dy * (Y * dx)) (dx * dy * (Z * dy)) (dx * dy * (Y * dz)) (omega (arith, mul-le-mul-right (dy * dy) h)) (omega arith))
+  where
+    times : (a b c : ℕ) → (a - b) * c ≡ c * a - c * b
+    times a b c = mul-comm (a - b) c ∙ mul-sub c a b
+
+    less : (a b c d : ℕ) → a ≤ c → b ≡ d → a - b ≤ c - d
+    less a b c d h e = omega arith
+
+-- the farther of two values not below y differs from it by more
+pub sub-mono : (x z y : Float) → T (positive x) → T (positive z) → T (positive y) → Under y x → Under x z → T (x ⊖ y ≼ z ⊖ y)
+sub-mono x z y p r q h k =
+    rw (sub-down x y p q h, sub-down z y r q (under-trans y x z h k))
+    (round-mono binary64 (num x * den y - num y * den x) (den x * den y) (num z * den y - num y * den z) (den z * den y)
+    (mul-pos (den-pos x) (den-pos y)) (mul-pos (den-pos z) (den-pos y)) (further (num x) (den x) (num y) (den y) (num z) (den z) k))

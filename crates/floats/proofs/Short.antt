@@ -3,7 +3,7 @@
 use mathlib.Core.Path.{_≡_, refl, sym, ap, _∙_, subst}
 use Prim.Native.Nat.{ℕ, zero, suc, _+_, _-_, _*_, _/_, _^_, _≤_, _<_, zero-le}
 use native.Mathlib.Nat.{le-of-eq, lt-of-lt-of-le, lt-of-le-of-lt, lt-of-not-le, not-le-of-lt, mul-pos, mul-assoc, mul-le-mul-left, mul-le-mul-right}
-use native.Mathlib.Nat.{le-of-mul-le-mul-right, div-mul-le-self, lt-div-mul-add, div-lt-iff-lt-mul, le-div-iff-mul-le, lt-of-mul-lt-mul-right}
+use native.Mathlib.Nat.{div-mul-le-self, lt-div-mul-add, div-lt-iff-lt-mul, le-div-iff-mul-le, lt-of-mul-lt-mul-right}
 use native.Mathlib.Nat.{mul-lt-mul-of-pos-right, zero-mul}
 use native.Mathlib.Omega.{arith}
 use mathlib.Core.Bool.{Bool, true, false, true≢false}
@@ -44,7 +44,7 @@ pub short-value : (w : ℕ) → Short w → HasValue (round binary64 false w (2 
 short-value w h = round-exact binary64 false w (2 ^ 1074) (h .digits) (h .zeros) (pow-pos 1074) (h .few) (subst (λ (x : ℕ). x < 2 ^ 2098) (h .is) (h .small))
     (ap (λ (x : ℕ). x * 2 ^ 1074) (h .is))
 
-most-of-le : (w : ℕ) (x y : Float) → HasValue y false w (2 ^ 1074) → T (magnitude x ≼ y) → AtMost w x
+pub most-of-le : (w : ℕ) (x y : Float) → HasValue y false w (2 ^ 1074) → T (magnitude x ≼ y) → AtMost w x
 unfolding le lt eq magnitude
 most-of-le w x nan v h = absurd v
 most-of-le w x (inf t) v h = absurd v
@@ -109,11 +109,7 @@ le-of-most v nan i g h l = absurd h
 le-of-most v (inf s) i g h l = absurd h
 le-of-most v (fin s m e) i g h l =
     le-of-values (fin false m e) (fin false i g) (m * up e) (down e) (i * up g) (down g) (down-pos e) (down-pos g) (refl, refl) (refl, refl)
-    (between (m * up e) (down e) (i * up g) (down g) v (2 ^ 1074) (pow-pos 1074) h l)
-  where
-    between : (x dx y dy v k : ℕ) → 0 < k → x * k ≤ v * dx → v * dy ≤ y * k → x * dy ≤ y * dx
-    between x dx y dy v k K h l = le-of-mul-le-mul-right {k = k}
-        (let p = mul-le-mul-right dy h in let q = mul-le-mul-right dx l in let z : x * dy * k ≤ y * dx * k = omega arith in z) K
+    (through (m * up e) v (i * up g) (down e) (2 ^ 1074) (down g) (pow-pos 1074) h l)
 
 -- ---- a product with a constant
 scaled : (a m k w v dg de : ℕ) → m * k ≤ w * de → a * w ≤ v * dg → a * m * k ≤ v * (dg * de)

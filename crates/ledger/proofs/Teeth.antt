@@ -19,7 +19,7 @@ use Rattle.brent.specs.Feed.{over}
 use Rattle.brent.specs.Run.{runWith}
 use Rattle.chart.specs.Quotes.{Quote, sideBySide}
 use Rattle.chart.specs.Build.{Lengths}
-use Rattle.chart.proofs.Choice.{split}
+use Rattle.floats.proofs.Tests.{split}
 use Rattle.ledger.specs.Model.{Opening, Model, Offer, volatility, priced}
 use Rattle.ledger.specs.Book.{Columns, openRefusal}
 use Rattle.ledger.specs.Build.{Buffers}

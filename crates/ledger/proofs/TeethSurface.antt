@@ -13,7 +13,7 @@ use lib.Ieee.{nan}
 use Rattle.grid.specs.Layout.{cellAt}
 use Rattle.chart.specs.Quotes.{Quote}
 use Rattle.chart.specs.Cells.{axes, mean}
-use Rattle.chart.proofs.Choice.{split}
+use Rattle.floats.proofs.Tests.{split}
 use Rattle.ledger.specs.Build.{Buffers}
 use Rattle.ledger.specs.Claim.{Neighbour, left, right, rows, columns, countAt, SurfaceClaim}
 

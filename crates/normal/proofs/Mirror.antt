@@ -7,17 +7,24 @@ use native.Mathlib.Nat.{zero-mul}
 use borrow.Author.Tests.{le-ltb}
 use lib.Ieee.{Float, nan, inf, fin, up, down, neg, lt, round}
 use Rattle.floats.specs.Operators.{decimal, _⊖_, _≺_}
+use Rattle.floats.proofs.Tests.{split}
 use Rattle.floats.proofs.Signs.{O, below-zero}
-use Rattle.normal.specs.Erfc.{erfc}
+use Rattle.normal.specs.Erfc.{erfc, erfcFromZero}
+use Rattle.normal.specs.Steps.{upright, mirrored}
 
-mirrored : (v : Float) → v ≺ O ≡ true → neg v ≺ O ≡ false
+not-below : (v : Float) → v ≺ O ≡ true → neg v ≺ O ≡ false
 unfolding lt neg round
-mirrored nan h = refl
-mirrored (inf false) h = absurd (true≢false (sym h))
-mirrored (inf true) h = refl
-mirrored (fin true m e) h = le-ltb (m * up e * 1) (0 * down e) (let z = zero-mul (down e) in omega arith)
-mirrored (fin false m e) h = absurd (below-zero (m * up e * 1) (down e) h)
+not-below nan h = refl
+not-below (inf false) h = absurd (true≢false (sym h))
+not-below (inf true) h = refl
+not-below (fin true m e) h = le-ltb (m * up e * 1) (0 * down e) (let z = zero-mul (down e) in omega arith)
+not-below (fin false m e) h = absurd (below-zero (m * up e * 1) (down e) h)
 
 pub erfc-below : (v : Float) → v ≺ decimal 0 1 ≡ true → erfc v ≡ decimal 2 1 ⊖ erfc (neg v)
 unfolding erfc
-erfc-below v h = rw (h, mirrored v h)
+erfc-below v h = rw (h, not-below v h)
+
+-- erfc of any v from that of a value not below 0
+pub of-upright : (v : Float) → mirrored v (erfcFromZero (upright v)) ≡ erfc v
+unfolding erfc
+of-upright v = split (v ≺ decimal 0 1) (λ t. rw t) (λ t. rw t)

@@ -1,17 +1,19 @@
 // exp, ln, erfc, pdf, cdf and the square root on f64, each equal to its definition in specs/ for every input.
 ghost use mathlib.Core.Path.{_≡_};
 ghost use lib.Dec.{T};
-ghost use lib.IntN.{pos, negsuc};
 ghost use lib.Signed.{mag};
 ghost use lib.Ieee.Positive.{positive};
 ghost use Prim.Native.Nat.{_+_, _*_, _/_, _^_, _≤_, _<_};
+ghost use mathlib.Core.Bool.{true, false};
+ghost use Rattle.floats.specs.Operators.{decimal, _≺_};
 ghost use Rattle.normal.specs.Tables.{E, L, polynomial};
 ghost use Rattle.normal.specs.Root.{SquareRoot, halfRoot};
 ghost use Rattle.normal.specs.Exp.{exp, floor, twoTo, expDegree};
 ghost use Rattle.normal.specs.Ln.{ln, lnAt, lnFrom, lnDegree};
 ghost use Rattle.normal.specs.Erfc.{series, terms, fraction, levels, erfc, erfcFromZero};
 ghost use Rattle.normal.specs.Normal.{pdf, cdf};
-ghost use Rattle.normal.specs.Steps.{Digits, Stepped, inExponent, Small};
+ghost use Rattle.normal.specs.Steps.{Digits, Stepped, inExponent, Small, settled, upright, mirrored};
+ghost use Rattle.normal.specs.Pairs.{both};
 
 // The f64 nearest 1/i!.
 const E: [f64; 14] = [
@@ -70,32 +72,69 @@ fn horner_l(w: f64) -> f64
     q
 }
 
-// The sum of the series after its 40 rounds.
-fn series(v: f64) -> f64
-    ensures { λ r. ⌜ r ≡ series v terms .sum ⌝ }
+// Whether round n left the sum as it was for good: each later term is at most g, since w is at most 8 and each later divisor above 8.
+fn settled(n: u32, w: f64, g: f64, sum: f64, next: f64) -> bool
+    ensures { λ r. ⌜ r ≡ settled n w g sum next ⌝ }
 {
-    let mut g = v;
-    let mut sum = v;
-    let mut n: u32 = 0;
-    while n < 40 {
-        g = (g * ((2.0 * v) * v)) / ((2 * n + 3) as f64);
-        sum = sum + g;
-        n += 1;
-    }
-    sum
+    (next == sum) & (0.0 < sum) & (0.0 < g) & (g <= 1.0) & (0.0 < w) & (w <= 8.0) & (3 <= n)
 }
 
-// c after its 60 rounds.
-fn fraction(v: f64) -> f64
-    ensures { λ r. ⌜ r ≡ fraction v levels ⌝ }
+// Two values of one function.
+pub struct Pair {
+    pub first: f64,
+    pub second: f64,
+}
+
+// The sums of two series after their 40 rounds, in one loop: neither waits for the other's divisions.
+fn series_pair(x: f64, y: f64) -> Pair
+    ensures { λ r. ⌜ r ≡ both (λ v. series v terms .sum) x y ⌝ }
 {
-    let mut c = v;
-    let mut n: u32 = 0;
-    while n < 60 {
-        c = v + (((60 - n) as f64) / 2.0) / c;
-        n += 1;
+    let u = (2.0 * x) * x;
+    let w = (2.0 * y) * y;
+    let mut g = x;
+    let mut h = y;
+    let mut a = x;
+    let mut b = y;
+    let mut k: u32 = 0;
+    while k < 40 {
+        let d = (2 * k + 3) as f64;
+        g = (g * u) / d;
+        h = (h * w) / d;
+        let next_a = a + g;
+        let next_b = b + h;
+        if settled(k, u, g, a, next_a) & settled(k, w, h, b, next_b) {
+            return Pair {
+                first: next_a,
+                second: next_b,
+            };
+        }
+        a = next_a;
+        b = next_b;
+        k += 1;
     }
-    c
+    Pair {
+        first: a,
+        second: b,
+    }
+}
+
+// c of two fractions after its 60 rounds, in one loop.
+fn fraction_pair(x: f64, y: f64) -> Pair
+    ensures { λ r. ⌜ r ≡ both (λ v. fraction v levels) x y ⌝ }
+{
+    let mut c = x;
+    let mut d = y;
+    let mut k: u32 = 0;
+    while k < 60 {
+        let half = ((60 - k) as f64) / 2.0;
+        c = x + half / c;
+        d = y + half / d;
+        k += 1;
+    }
+    Pair {
+        first: c,
+        second: d,
+    }
 }
 
 // The largest whole number not above t.
@@ -133,25 +172,97 @@ pub fn exp(v: f64) -> f64
     horner_e(r) * two_to(k)
 }
 
-// erfc of a v not below 0.
-fn erfc_from_zero(v: f64) -> f64
-    ensures { λ r. ⌜ r ≡ erfcFromZero v ⌝ }
+// erfc of two values under 2, by the series.
+fn near_pair(x: f64, y: f64) -> Pair
+    requires { ⌜ (x ≺ decimal 2 1 ≡ true) × (y ≺ decimal 2 1 ≡ true) ⌝ }
+    ensures { λ r. ⌜ r ≡ both erfcFromZero x y ⌝ }
 {
-    if v < 2.0 {
-        1.0 - (1.1283791670955126 * exp(-(v * v))) * series(v)
-    } else {
-        (exp(-(v * v)) * 0.5641895835477563) / fraction(v)
+    let e = 1.1283791670955126 * exp(-(x * x));
+    let f = 1.1283791670955126 * exp(-(y * y));
+    let s = series_pair(x, y);
+    Pair {
+        first: 1.0 - e * s.first,
+        second: 1.0 - f * s.second,
     }
 }
 
+// erfc of two values from 2 on, by the fraction. Where both numerators are 0 so are both quotients, and no fraction is wanted.
+fn far_pair(x: f64, y: f64) -> Pair
+    requires { ⌜ (x ≺ decimal 2 1 ≡ false) × (y ≺ decimal 2 1 ≡ false) ⌝ }
+    ensures { λ r. ⌜ r ≡ both erfcFromZero x y ⌝ }
+{
+    let e = exp(-(x * x)) * 0.5641895835477563;
+    let f = exp(-(y * y)) * 0.5641895835477563;
+    if (e == 0.0) & (0.0 < x) & (f == 0.0) & (0.0 < y) {
+        return Pair {
+            first: e,
+            second: f,
+        };
+    }
+    let c = fraction_pair(x, y);
+    Pair {
+        first: e / c.first,
+        second: f / c.second,
+    }
+}
+
+// erfc of two values not below 0: in one loop where both stand on one side of 2, else each beside itself.
+fn erfc_from_zero_pair(x: f64, y: f64) -> Pair
+    ensures { λ r. ⌜ r ≡ both erfcFromZero x y ⌝ }
+{
+    if x < 2.0 {
+        if y < 2.0 {
+            return near_pair(x, y);
+        }
+        let s = near_pair(x, x);
+        let t = far_pair(y, y);
+        return Pair {
+            first: s.first,
+            second: t.second,
+        };
+    }
+    if y < 2.0 {
+        let s = far_pair(x, x);
+        let t = near_pair(y, y);
+        return Pair {
+            first: s.first,
+            second: t.second,
+        };
+    }
+    far_pair(x, y)
+}
+
+// v or its mirror image, whichever is not below 0.
+fn upright(v: f64) -> f64
+    ensures { λ r. ⌜ r ≡ upright v ⌝ }
+{
+    if v < 0.0 { -v } else { v }
+}
+
+// erfc of v, from that of its upright value.
+fn mirrored(v: f64, e: f64) -> f64
+    ensures { λ r. ⌜ r ≡ mirrored v e ⌝ }
+{
+    if v < 0.0 { 2.0 - e } else { e }
+}
+
+// erfc of two values, each from that of its upright value.
+fn erfc_pair(x: f64, y: f64) -> Pair
+    ensures { λ r. ⌜ r ≡ both erfc x y ⌝ }
+{
+    let r = erfc_from_zero_pair(upright(x), upright(y));
+    Pair {
+        first: mirrored(x, r.first),
+        second: mirrored(y, r.second),
+    }
+}
+
+// One value is the pair of it and itself.
 pub fn erfc(v: f64) -> f64
     ensures { λ r. ⌜ r ≡ erfc v ⌝ }
 {
-    if v < 0.0 {
-        2.0 - erfc_from_zero(-v)
-    } else {
-        erfc_from_zero(v)
-    }
+    let r = erfc_pair(v, v);
+    r.first
 }
 
 // The standard normal density.
@@ -161,11 +272,23 @@ pub fn pdf(x: f64) -> f64
     0.3989422804014327 * exp(-0.5 * x * x)
 }
 
-// The standard normal probability of a value not above x.
+// The standard normal probability of a value not above x, of two values at once, as a price needs it.
+pub fn cdf_pair(x: f64, y: f64) -> Pair
+    ensures { λ r. ⌜ r ≡ both cdf x y ⌝ }
+{
+    let r = erfc_pair(-x / 1.4142135623730951, -y / 1.4142135623730951);
+    Pair {
+        first: 0.5 * r.first,
+        second: 0.5 * r.second,
+    }
+}
+
+// The same of one value: the pair of it and itself.
 pub fn cdf(x: f64) -> f64
     ensures { λ r. ⌜ r ≡ cdf x ⌝ }
 {
-    0.5 * erfc(-x / 1.4142135623730951)
+    let r = cdf_pair(x, x);
+    r.first
 }
 
 // The 53 leading binary digits of a float above 0, and how many digits it has in units of 2^-1074.

@@ -1,4 +1,4 @@
-// Runs sqrt, exp, ln, erfc, pdf and cdf on the vectors of standard input, and writes for each the function, the input's bits, the answer's bits, and
+// Runs sqrt, exp, ln, erfc, pdf, cdf and cdf_pair on the vectors of standard input, and writes for each the function, the input's bits, the answer's bits, and
 // ok or MISMATCH. The last line has the totals. vectors.py makes the vectors and says what a line holds and where the expected values are from.
 ghost use Prim.Native.Nat.{_+_, _≤_, _<_};
 use libc::STDOUT_FILENO;
@@ -69,8 +69,16 @@ fn bits_of(x: f64) -> u64 {
     }
 }
 
-// The function by the first two letters of its name.
-fn value(a: u8, b: u8, x: f64) -> f64 {
+// The function by the first two letters of its name; 1st and 2nd are the values of a pair, x beside another.
+fn value(a: u8, b: u8, x: f64, other: f64) -> f64 {
+    if a == b'1' {
+        let pair = normal::cdf_pair(x, other);
+        return pair.first;
+    }
+    if a == b'2' {
+        let pair = normal::cdf_pair(other, x);
+        return pair.second;
+    }
     if a == b's' {
         return normal::sqrt(x);
     }
@@ -101,7 +109,12 @@ fn agrees(mark: u8, got: f64, wanted: u64, tolerance: u64) -> bool {
 // Answers whether the function agrees with the line, and writes the answer out.
 fn judge(line: &[u8; 58]) -> bool {
     let input = number(line, 7);
-    let got = value(line[0], line[1], float_of(input));
+    let got = value(
+        line[0],
+        line[1],
+        float_of(input),
+        float_of(number(line, 41)),
+    );
     let ok = agrees(line[5], got, number(line, 24), number(line, 41));
     io::write_all(STDOUT_FILENO, &[line[0], line[1], line[2], line[3]]);
     print_bits(input);

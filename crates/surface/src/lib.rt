@@ -1,38 +1,39 @@
 // A volatility surface of quotes: axes, cells and counts, as `VolSurface::from_points` of src/options/surface.rs makes them.
 ghost use mathlib.Core.Path.{_≡_};
-ghost use mathlib.Core.Bool.{_&&_};
+ghost use mathlib.Core.Bool.{true, _&&_};
 ghost use mathlib.Core.List.{_∷_, _++_};
-ghost use Prim.Native.Nat.{suc, _≤_, _<_};
-ghost use lib.Dec.{ltb, eqb};
+ghost use Prim.Native.Nat.{suc, _+_, _-_, _≤_, _<_};
+ghost use lib.Dec.{T, ltb, eqb};
 ghost use lib.ListN.{length, take, drop, getD};
 ghost use lib.Ieee.{nan};
+ghost use lib.Ieee.Positive.{positive};
 ghost use Rattle.floats.specs.Operators.{decimal, _≺_, _⊘_, if_then_else_};
 ghost use Rattle.limits.specs.Ranges.{isStrike, isExpiry, isVolatility};
 ghost use Rattle.limits.specs.Checks.{first, none};
 ghost use Rattle.grid.specs.Search.{firstWhere};
 ghost use Rattle.grid.specs.Layout.{cellAt, values};
 ghost use Rattle.chart.specs.Quotes.{quotes, allInRange};
-ghost use Rattle.chart.specs.Axis.{insert, sort, thinned, axis, near, place};
-ghost use Rattle.chart.specs.Cells.{Housed, source};
-ghost use Rattle.chart.specs.Steps.{axesOf, Blank, Filed, held, RowsWritten, CellsWritten};
+ghost use Rattle.chart.specs.Axis.{insert, thinned, axis, place};
+ghost use Rattle.chart.specs.Cells.{source};
+ghost use Rattle.chart.specs.Steps.{axesOf, Alike, Pos, Ascending, reaches, OnAxis, OnAxes, Blank, Filed, held, RowsWritten, CellsWritten};
 ghost use Rattle.chart.specs.Build.{front, refusal, Builds};
 use chart::Built;
 
-// The index of the first of the n values above x, or n.
+// The index of the first of the n values above x, or n: by halves, since they ascend.
 fn first_above(a: &[f64], n: usize, x: f64) -> usize
-    requires { ⌜ n ≤ length (now a) ⌝ }
+    requires { ⌜ (n ≤ length (now a)) × Ascending (take n (now a)) × T (positive x) ⌝ }
     ensures { λ r. ⌜ r ≡ firstWhere (λ y. x ≺ y) (take n (now (a .entry))) ⌝ }
 {
-    let mut i = 0;
-    let at = loop {
-        if i >= n {
-            break n;
+    let mut at = 0;
+    let mut size = n;
+    while size > 0 {
+        let rest = size / 2;
+        let next = at + (size - rest);
+        size = rest;
+        if x < a[next - 1] {} else {
+            at = next;
         }
-        if x < a[i] {
-            break i;
-        }
-        i += 1;
-    };
+    }
     at
 }
 
@@ -52,25 +53,50 @@ fn open_gap(a: &mut [f64], p: usize, n: usize, x: f64)
     a[n] = carry;
 }
 
-// Puts x into the first n values, before the first one above it.
-fn insert_into(a: &mut [f64], n: usize, x: f64)
-    requires { ⌜ n < length (now a) ⌝ }
-    ensures { λ _. ⌜ now (a .exit) ≡ insert x (take n (now (a .entry))) ++ drop (suc n) (now (a .entry)) ⌝ }
+// Whether y is x, which is no zero, so that equal is the same.
+fn same(y: f64, x: f64) -> bool
+    requires { ⌜ T (positive x) ⌝ }
+    ensures { λ r. ⌜ (r ≡ true → y ≡ x) ⌝ }
 {
-    let p = first_above(&a[..], n, x);
-    open_gap(a, p, n, x);
+    y == x
 }
 
-// The first n values of xs, sorted, in the front of a.
-fn sort_into(a: &mut [f64], xs: &[f64], n: usize)
-    requires { ⌜ (n ≤ length (now a)) × (n ≤ length (now xs)) ⌝ }
-    ensures { λ _. ⌜ take n (now (a .exit)) ≡ sort (take n (now (xs .entry))) ⌝ }
+// Whether the value before place p is x.
+fn stands(a: &[f64], p: usize, x: f64) -> bool
+    requires { ⌜ (p ≤ length (now a)) × T (positive x) ⌝ }
+    ensures { λ r. ⌜ (r ≡ true → (0 < p) × (getD (now (a .entry)) (p - 1) nan ≡ x)) ⌝ }
 {
+    if p == 0 {
+        return false;
+    }
+    same(a[p - 1], x)
+}
+
+// Puts x into the first n values, before the first one above it, where it does not stand yet, and returns how many they are then.
+fn insert_into(a: &mut [f64], n: usize, x: f64) -> usize
+    requires { ⌜ (n < length (now a)) × Ascending (take n (now a)) × T (positive x) ⌝ }
+    ensures { λ r. ⌜ (r ≤ n + 1) × Ascending (take r (now (a .exit))) × Alike (take r (now (a .exit))) (insert x (take n (now (a .entry)))) ⌝ }
+{
+    let p = first_above(&a[..], n, x);
+    if stands(&a[..], p, x) {
+        return n;
+    }
+    open_gap(a, p, n, x);
+    n + 1
+}
+
+// The first n values of xs, sorted, each once, in the front of a, and how many they are.
+fn sort_into(a: &mut [f64], xs: &[f64], n: usize) -> usize
+    requires { ⌜ (n ≤ length (now a)) × (n ≤ length (now xs)) × Pos (take n (now xs)) ⌝ }
+    ensures { λ r. ⌜ (thinned (take r (now (a .exit))) ≡ axis (take n (now (xs .entry)))) × (r ≤ n) ⌝ }
+{
+    let mut kept = 0;
     let mut i = 0;
     while i < n {
-        insert_into(a, i, xs[i]);
+        kept = insert_into(a, kept, xs[i]);
         i += 1;
     }
+    kept
 }
 
 // Drops from the first n values, which are sorted, each that is too near the last one kept, and returns how many are left.
@@ -98,40 +124,41 @@ fn thin_out(a: &mut [f64], n: usize) -> usize
 
 // The axis of the first n values of xs, in the front of a, and its length.
 fn make_axis(a: &mut [f64], xs: &[f64], n: usize) -> usize
-    requires { ⌜ (n ≤ length (now a)) × (n ≤ length (now xs)) ⌝ }
+    requires { ⌜ (n ≤ length (now a)) × (n ≤ length (now xs)) × Pos (take n (now xs)) ⌝ }
     ensures { λ r. ⌜ (take r (now (a .exit)) ≡ axis (take n (now (xs .entry)))) × (r ≤ n) ⌝ }
 {
-    sort_into(a, xs, n);
-    thin_out(a, n)
+    let kept = sort_into(a, xs, n);
+    thin_out(a, kept)
 }
 
-fn near(a: f64, x: f64) -> bool
-    ensures { λ r. ⌜ r ≡ near a x ⌝ }
+// Whether the first axis value that takes x is a or stands before it, where there is one.
+fn reaches(a: f64, x: f64) -> bool
+    ensures { λ r. ⌜ r ≡ reaches a x ⌝ }
 {
-    floats::abs(a - x) < 1e-12
+    x - a < 1e-12
 }
 
-// The index of the first axis value that takes x, or the axis' length.
+// The index of the first axis value that takes x, which has one: by halves, since the axis ascends.
 fn place(axis: &[f64], x: f64) -> usize
+    requires { ⌜ OnAxis (now axis) x ⌝ }
     ensures { λ r. ⌜ r ≡ place (now (axis .entry)) x ⌝ }
 {
-    let size = axis.len();
-    let mut i = 0;
-    let at = loop {
-        if i >= size {
-            break size;
+    let mut at = 0;
+    let mut size = axis.len();
+    while size > 0 {
+        let rest = size / 2;
+        let next = at + (size - rest);
+        size = rest;
+        if reaches(axis[next - 1], x) {} else {
+            at = next;
         }
-        if near(axis[i], x) {
-            break i;
-        }
-        i += 1;
-    };
+    }
     at
 }
 
 // Where the cell of a quote stands, which has one.
 fn home(columns: &[f64], rows: &[f64], strike: f64, expiry: f64) -> usize
-    requires { ⌜ (place (now rows) expiry < 32) × (place (now columns) strike < 64) ⌝ }
+    requires { ⌜ OnAxis (now rows) expiry × OnAxis (now columns) strike × (length (now rows) ≤ 32) × (length (now columns) ≤ 64) ⌝ }
     ensures { λ r. ⌜ (r ≡ cellAt (place (now (rows .entry)) expiry) (place (now (columns .entry)) strike)) × (r < 2048) ⌝ }
 {
     let row = place(rows, expiry);
@@ -152,7 +179,7 @@ fn tally(
 )
     requires { ⌜ (length (now columns) ≤ 64) × (length (now rows) ≤ 32) × (length (now sums) ≡ 2048) × (length (now numbers) ≡ 2048) ⌝ }
     requires { ⌜ (n ≤ 1024) × (n ≤ length (now strikes)) × (n ≤ length (now expiries)) × (n ≤ length (now volatilities)) ⌝ }
-    requires { ⌜ Housed (axesOf (now columns) (now rows)) (quotes n (now strikes) (now expiries) (now volatilities)) ⌝ }
+    requires { ⌜ OnAxes (axesOf (now columns) (now rows)) (quotes n (now strikes) (now expiries) (now volatilities)) ⌝ }
     requires { ⌜ Blank (now sums) (now numbers) ⌝ }
     ensures { λ _. ⌜ Filed (axesOf (now (columns .entry)) (now (rows .entry))) (quotes n (now (strikes .entry)) (now (expiries .entry)) (now (volatilities .entry))) (now (sums .exit)) (now (numbers .exit)) ⌝ }
 {
@@ -267,7 +294,7 @@ fn fill_cells(
 )
     requires { ⌜ (2048 ≤ length (now grid)) × (2048 ≤ length (now counts)) × (length (now columns) ≤ 64) × (length (now rows) ≤ 32) ⌝ }
     requires { ⌜ (n ≤ 1024) × (n ≤ length (now strikes)) × (n ≤ length (now expiries)) × (n ≤ length (now volatilities)) ⌝ }
-    requires { ⌜ Housed (axesOf (now columns) (now rows)) (quotes n (now strikes) (now expiries) (now volatilities)) ⌝ }
+    requires { ⌜ OnAxes (axesOf (now columns) (now rows)) (quotes n (now strikes) (now expiries) (now volatilities)) ⌝ }
     ensures { λ _. ⌜ CellsWritten (axesOf (now (columns .entry)) (now (rows .entry))) (quotes n (now (strikes .entry)) (now (expiries .entry)) (now (volatilities .entry))) (now (grid .entry)) (now (counts .entry)) (now (grid .exit)) (now (counts .exit)) ⌝ }
 {
     let mut sums = [0.0f64; 2048];

@@ -10,7 +10,7 @@ use Rattle.limits.specs.Checks.{none}
 use Rattle.limits.specs.Outcome.{Outcome, done, refused}
 use Rattle.chart.specs.declared.Built.{Built}
 use Rattle.chart.specs.Build.{outcome}
-use Rattle.chart.proofs.Choice.{split}
+use Rattle.floats.proofs.Tests.{split}
 use Rattle.ledger.specs.Model.{Opening, bsm, Offer}
 use Rattle.ledger.specs.Book.{Columns, fresh, zeroBook, openRefusal, opened}
 use Rattle.ledger.specs.Build.{Buffers, buildOutcome, buffersAfter, BuildsBook}

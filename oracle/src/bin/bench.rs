@@ -1,5 +1,6 @@
 //! Times a tray of priced quotes, solved and built: ours (`kite_quote_tray`) against the Rust (`implied_volatility` for each, then `from_points`), the
-//! Rust once with our root, digit by digit, and once with the processor's. Same inputs, same driver, the runs taken in turn, medians.
+//! Rust once with our root, digit by digit, and once with the processor's; solving and building also apart. Same inputs, same driver, the sides taken in
+//! turn, another tray for each run, medians. Ends with the ratio that S-14 asks for, and fails where it is above 2.0.
 //!
 //!     bench [runs]
 #[path = "../ours.rs"]
@@ -29,11 +30,11 @@ fn processor() -> f64 {
     t.seconds as f64 + t.nanoseconds as f64 * 1e-9
 }
 
-/// Wall and processor time, in milliseconds.
+/// Processor and wall time, in milliseconds.
 fn timed(f: impl FnOnce()) -> (f64, f64) {
-    let (wall, cpu) = (Instant::now(), processor());
+    let (cpu, wall) = (processor(), Instant::now());
     f();
-    ((wall.elapsed().as_secs_f64()) * 1e3, (processor() - cpu) * 1e3)
+    ((processor() - cpu) * 1e3, wall.elapsed().as_secs_f64() * 1e3)
 }
 
 fn median(mut xs: Vec<f64>) -> f64 {
@@ -52,8 +53,8 @@ struct Morning {
     values: Vec<f64>,
 }
 
-fn morning(count: usize) -> Morning {
-    let mut r = Random(7);
+fn morning(count: usize, seed: u64) -> Morning {
+    let mut r = Random(seed);
     let (spot, rate) = (100.0, 0.03);
     let mut places: Vec<(usize, usize, bool)> = (0..40).flat_map(|k| (0..25).flat_map(move |t| [(k, t, false), (k, t, true)])).collect();
     r.shuffle(&mut places);
@@ -64,7 +65,9 @@ fn morning(count: usize) -> Morning {
         let price = questions::price(&Asked { put, values: [spot, strike, expiry, rate, volatility] });
         let cents = (price * 100.0).round() / 100.0;
         // What is worth nothing, or no more than at once, has no volatility to find.
-        let found = greeks::implied_volatility(cents, &greeks::OptionParams { spot, strike, time_to_expiry: expiry, risk_free_rate: rate, volatility: 0.0, option_type: questions::kind(put) });
+        let option_type = questions::kind(put);
+        let asked = greeks::OptionParams { spot, strike, time_to_expiry: expiry, risk_free_rate: rate, volatility: 0.0, option_type };
+        let found = greeks::implied_volatility(cents, &asked);
         if m.values.len() < count && found.is_ok() {
             m.prices.push(true);
             m.puts.push(put);
@@ -123,59 +126,146 @@ fn agree(m: &Morning, t: &Tray, number: u64) -> u64 {
     evaluations
 }
 
+/// Processor and wall time of each side, in milliseconds.
 struct Row {
-    ours: (f64, f64),
+    tray: (f64, f64),
+    solving: (f64, f64),
+    building: (f64, f64),
     digits: (f64, f64),
+    digits_building: (f64, f64),
     processor: (f64, f64),
-    solve_only: (f64, f64),
-    evaluations: u64,
+    /// On the average of the trays.
+    prices: u64,
+}
+
+impl Row {
+    /// The ratio that S-14 asks for: to the Rust with our root.
+    fn ratio(&self) -> (f64, f64) {
+        (self.tray.0 / self.digits.0, self.tray.1 / self.digits.1)
+    }
 }
 
 fn measure(count: usize, runs: usize) -> Row {
-    let m = morning(count);
     let mut t = Tray::new(count);
-    let number = quote(&m, &mut t);
-    let evaluations = agree(&m, &t, number);
-    let mut sides: [(Vec<f64>, Vec<f64>); 4] = Default::default();
-    for _ in 0..runs {
+    let mut buffers = t.buffers.clone();
+    let mut prices = 0;
+    let mut sides: [(Vec<f64>, Vec<f64>); 6] = Default::default();
+    for run in 0..runs {
+        // Another tray for each run: the branches of one that comes again are guessed better than a desk's ever are.
+        let m = morning(count, 7 + run as u64);
+        let number = quote(&m, &mut t);
+        prices += agree(&m, &t, number);
+        let points = solved!(greeks_digits, &m);
         let times = [
             timed(|| {
                 black_box(quote(black_box(&m), &mut t));
             }),
-            timed(|| drop(black_box(surface::VolSurface::from_points(solved!(greeks_digits, black_box(&m)))))),
-            timed(|| drop(black_box(surface::VolSurface::from_points(solved!(greeks, black_box(&m)))))),
             timed(|| {
                 for i in 0..count {
                     black_box(ours::implied(m.puts[i], [m.values[i], m.spot, m.strikes[i], m.expiries[i], m.rate]));
                 }
             }),
+            timed(|| {
+                black_box(ours::build(&t.strikes, &t.expiries, &t.volatilities, count as u64, &mut buffers));
+            }),
+            timed(|| drop(black_box(surface::VolSurface::from_points(solved!(greeks_digits, black_box(&m)))))),
+            timed(|| drop(black_box(surface::VolSurface::from_points(points)))),
+            timed(|| drop(black_box(surface::VolSurface::from_points(solved!(greeks, black_box(&m)))))),
         ];
-        for (side, (wall, cpu)) in sides.iter_mut().zip(times) {
-            side.0.push(wall);
-            side.1.push(cpu);
+        for (side, (cpu, wall)) in sides.iter_mut().zip(times) {
+            side.0.push(cpu);
+            side.1.push(wall);
         }
     }
-    let [ours, digits, processor, solve_only] = sides.map(|(wall, cpu)| (median(wall), median(cpu)));
-    Row { ours, digits, processor, solve_only, evaluations }
+    let [tray, solving, building, digits, digits_building, processor] = sides.map(|(cpu, wall)| (median(cpu), median(wall)));
+    Row { tray, solving, building, digits, digits_building, processor, prices: prices / runs as u64 }
+}
+
+/// The dearest build: 1,024 strikes, no two the same, from the highest down; refused by 16.
+fn distinct(runs: usize) -> f64 {
+    let strikes: Vec<f64> = (0..1024).map(|i| 2048.0 - i as f64).collect();
+    let (expiries, volatilities) = (vec![1.0; 1024], vec![0.2; 1024]);
+    let mut buffers = ours::Buffers::new(64, 32, 2048, 2048);
+    let times = (0..runs).map(|_| timed(|| assert_eq!(ours::build(&strikes, &expiries, &volatilities, 1024, &mut buffers), 16)).0);
+    median(times.collect())
+}
+
+/// What one call of ours takes, in nanoseconds.
+fn one_call(runs: usize, mut call: impl FnMut(&mut Random)) -> f64 {
+    const CALLS: u64 = 2000;
+    let times = (0..runs).map(|_| {
+        let mut r = Random(11);
+        timed(|| (0..CALLS).for_each(|_| call(&mut r))).0
+    });
+    median(times.collect()) * 1e6 / CALLS as f64
+}
+
+fn calls(runs: usize) -> [(&'static str, f64); 5] {
+    let option = |r: &mut Random| (r.flip(), [100.0, r.uniform(60.0, 140.0), r.uniform(0.05, 2.0), 0.03, r.uniform(0.1, 0.6)]);
+    let far = |r: &mut Random| (r.flip(), [100.0, r.uniform(118.0, 122.0), 0.25, 0.03, r.uniform(0.09, 0.11)]);
+    let erfc = |r: &mut Random, from: f64, to: f64| {
+        black_box(ours::function("erfc", r.uniform(from, to)));
+    };
+    [
+        ("erfc under 2", one_call(runs, |r| erfc(r, 0.0, 2.0))),
+        ("erfc from 2", one_call(runs, |r| erfc(r, 2.0, 6.0))),
+        ("a price", one_call(runs, |r| {
+            let (put, v) = option(r);
+            black_box(ours::price(put, v));
+        })),
+        ("seven greeks", one_call(runs, |r| {
+            let (put, v) = option(r);
+            black_box(ours::greeks(put, v));
+        })),
+        ("seven greeks far out", one_call(runs, |r| {
+            let (put, v) = far(r);
+            black_box(ours::greeks(put, v));
+        })),
+    ]
+}
+
+const HEAD: [&str; 10] = [
+    "quotes", "prices", "ours", "solving", "building", "ns a price", "the Rust", "its building", "ratio", "ratio, processor's root",
+];
+
+fn line(cells: [String; 10]) -> String {
+    let padded: Vec<String> = cells.iter().zip(HEAD).map(|(cell, head)| format!("{cell:>width$}", width = head.len().max(8))).collect();
+    padded.join("  ")
 }
 
 fn main() {
     let runs = std::env::args().nth(1).map_or(21, |a| a.parse().expect("a whole number"));
-    println!("a tray of priced quotes solved and built, medians of {runs} runs, milliseconds of wall time (of processor time)");
-    println!("quotes  prices       ours            the Rust, our root  the Rust, processor's root  ratio to our root  ratio to processor's");
+    println!("a tray of priced quotes solved and built, ours and the Rust with our root, medians of {runs} runs, milliseconds of processor time");
+    println!("{}", line(HEAD.map(String::from)));
+    let mut asked = (0.0, 0.0);
     for count in [100, 200, 400, 600, 800, 1000, 1024] {
         let r = measure(count, runs);
-        let both = |x: (f64, f64)| format!("{:.3} ({:.3})", x.0, x.1);
-        let ratio = |x: (f64, f64)| format!("{:.3} ({:.3})", r.ours.0 / x.0, r.ours.1 / x.1);
+        let ms = |x: (f64, f64)| format!("{:.3}", x.0);
         println!(
-            "{count:>6}  {:>6}  {:>15}  {:>18}  {:>26}  {:>17}  {:>20}    ours, solving alone {}",
-            r.evaluations,
-            both(r.ours),
-            both(r.digits),
-            both(r.processor),
-            ratio(r.digits),
-            ratio(r.processor),
-            both(r.solve_only)
+            "{}",
+            line([
+                count.to_string(),
+                r.prices.to_string(),
+                ms(r.tray),
+                ms(r.solving),
+                ms(r.building),
+                format!("{:.0}", r.solving.0 * 1e6 / r.prices as f64),
+                ms(r.digits),
+                ms(r.digits_building),
+                format!("{:.3}", r.ratio().0),
+                format!("{:.3}", r.tray.0 / r.processor.0),
+            ])
         );
+        if count == 1000 {
+            asked = r.ratio();
+        }
+    }
+    println!("one call of ours, nanoseconds: {}", calls(runs).map(|(what, ns)| format!("{what} {ns:.0}")).join(", "));
+    println!("1,024 strikes, no two the same: refused by 16 after {:.3} ms", distinct(runs));
+    println!("S-14: 1,000 quotes, median of {runs} runs: {:.3} of the Rust's time with our exp, ln, root and erfc ({:.3} of wall time)", asked.0, asked.1);
+    // Also where there is no ratio.
+    if !(asked.0 <= 2.0) {
+        println!("S-14 asks for at most 2.0");
+        std::process::exit(1);
     }
 }

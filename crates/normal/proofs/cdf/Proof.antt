@@ -1,15 +1,13 @@
--- `normal::cdf`: one call of `erfc`, with the literals the nearest floats by computation. Assumes nothing.
-use lib.Ieee.{ofBits, round}
+-- `normal::cdf`: the first of a pair. Assumes nothing.
 use borrow.Author.Needs.{needs}
 use Rattle.normal.proofs.cdf.Statement.{statement}
 use Rattle.normal.proofs.cdf.Tie as tie
 
-erfc-requires : tie.Need-erfc-requires
-erfc-requires c κs = search needs
+cdf-pair-requires : tie.Need-cdf-pair-requires
+cdf-pair-requires c κs = search needs
 
 returns : tie.Need-returns
-unfolding ofBits round
-returns c = rw (c .erfc .ensures)
+returns c = rw (c .cdf-pair .ensures)
 
 pub cdf-spec : {M : Type 1} → statement M
-cdf-spec = tie.close (tie.spec erfc-requires returns)
+cdf-spec = tie.close (tie.spec cdf-pair-requires returns)

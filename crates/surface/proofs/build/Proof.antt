@@ -1,6 +1,6 @@
 -- `surface::build`: what no check turned down has axes that fit, and every quote a cell on them. Assumes nothing.
 use Rattle.chart.proofs.BuildChecks.{Passed, passed, refused, axes-fit}
-use Rattle.chart.proofs.Made.{strikes-made, expiries-made, made-size, axes-refused, made-housed, made-built}
+use Rattle.chart.proofs.Made.{strikes-positive, expiries-positive, strikes-made, expiries-made, made-size, axes-refused, made-placed, made-built}
 use Rattle.chart.specs.Build.{refusal}
 use lib.Seq.{length-take-le}
 use Prim.Native.Nat.{ℕ, _-_, _≤_}
@@ -35,7 +35,7 @@ slice-aggregate-make-axis c = search needs
 make-axis-requires : tie.Need-make-axis-requires
 make-axis-requires c κs =
     let P = entered (c .before .before .before .before .before .before .before .before .before .before) _ (c .before .before .build-number .ensures) (c .before .if1 .left) in
-    (P .few, omega (arith, P .few, P .strikes))
+    (P .few, omega (arith, P .few, P .strikes), strikes-positive P)
 
 slice-aggregate-make-axis-2 : tie.Need-slice-aggregate-make-axis-2
 slice-aggregate-make-axis-2 c = search needs
@@ -43,7 +43,7 @@ slice-aggregate-make-axis-2 c = search needs
 make-axis-requires-2 : tie.Need-make-axis-requires-2
 make-axis-requires-2 c κs =
     let P = entered (c .before .before .before .before .before .before .before .before .before .before .before .before .before) _ (c .before .before .before .before .before .build-number .ensures) (c .before .before .before .before .if1 .left) in
-    (P .few, omega (arith, P .few, P .expiries))
+    (P .few, omega (arith, P .few, P .expiries), expiries-positive P)
 
 axes-number-requires : tie.Need-axes-number-requires
 axes-number-requires c κs = search needs
@@ -100,7 +100,7 @@ fill-cells-requires c κs =
       (P .long-grid, P .long-counts, omega (arith, length-take-le (K .result) (K .last .0) kb, fit .0), omega (arith, length-take-le (E .result) (E .last .0) eb, fit .1)),
       (
         (P .few, omega (arith, P .few, P .strikes), omega (arith, P .few, P .expiries), omega (arith, P .few, P .volatilities)),
-        made-housed P _ _ hk he,
+        made-placed P _ _ hk he,
       ),
     )
 

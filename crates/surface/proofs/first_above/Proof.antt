@@ -1,50 +1,70 @@
--- `surface::first_above`: the search stops at the first value above x. Assumes nothing.
-use Rattle.grid.proofs.First.{Looking, look-start, look-on, look-hit, look-end}
+-- `surface::first_above`: the first value above x stays in `at` to `at + size`, as the values ascend (`above-rises`). Assumes nothing.
+use Rattle.grid.specs.Search.{firstWhere}
+use Rattle.grid.proofs.First.{first-most, take-upto, take-past}
+use Rattle.chart.proofs.Halves.{above-rises}
 use Rattle.floats.specs.Operators.{_≺_}
-use Prim.Native.Nat.{_-_, _≤_}
-use mathlib.Core.Path.{_≡_, sym, _∙_}
-use lib.ListN.{length}
+use Prim.Native.Nat.{_+_, _-_, _/_, _≤_, _<_}
+use lib.ListN.{take}
+use lib.Seq.{length-take-le}
 use lib.Ieee.{nan}
 use native.Mathlib.Omega.{arith}
 use Rattle.surface.proofs.first_above.Statement.{statement}
 use Rattle.surface.proofs.first_above.Tie as tie
 
 abbrev Inv-loop : tie.InvT-loop
-Inv-loop a n x i₀ i = (n ≤ length a) × (i ≤ n) × Looking (λ y. x ≺ y) a n nan i
+Inv-loop a n x at₀ size₀ at size = (at ≤ firstWhere (λ y. x ≺ y) (take n a)) × (firstWhere (λ y. x ≺ y) (take n a) ≤ at + size) × (at + size ≤ n)
 
 abbrev μ-loop : tie.MeasureT-loop
-μ-loop a n x i₀ i = n - i
+μ-loop a n x at₀ size₀ at size = size
 
 loop-holds : tie.Need-loop-holds Inv-loop μ-loop
-loop-holds c = (c .pre, omega arith, look-start _ (c .args .a .now) (c .args .n) nan)
+loop-holds c =
+    let A = c .args in
+    let l = length-take-le (A .n) (A .a .now) (c .pre .0) in
+    (omega arith, omega (arith, l, first-most (λ y. A .x ≺ y) (take (A .n) (A .a .now))), omega arith)
 
-mul-if2 : tie.Need-mul-if2 Inv-loop μ-loop
-mul-if2 c = omega arith
+sub-next : tie.Need-sub-next Inv-loop μ-loop
+sub-next c = omega arith
 
-shared-slice-read-if2 : tie.Need-shared-slice-read-if2 Inv-loop μ-loop
-shared-slice-read-if2 c = omega arith
+add-next : tie.Need-add-next Inv-loop μ-loop
+add-next c = omega arith
 
-add-i : tie.Need-add-i Inv-loop μ-loop
-add-i c = omega arith
+sub-if1 : tie.Need-sub-if1 Inv-loop μ-loop
+sub-if1 c = omega arith
+
+mul-if1 : tie.Need-mul-if1 Inv-loop μ-loop
+mul-if1 c = omega arith
+
+shared-slice-read-if1 : tie.Need-shared-slice-read-if1 Inv-loop μ-loop
+shared-slice-read-if1 c = omega arith
 
 loop-less : tie.Need-loop-less Inv-loop μ-loop
 loop-less c = omega arith
 
 loop-again : tie.Need-loop-again Inv-loop μ-loop
 loop-again c =
-    let I = c .before .before .before .loop .inv in
-    (I .0, omega arith, look-on _ _ _ _ _ (I .0) (c .before .before .if1 .left) (c .if2 .left) (I .2))
+    let start = c .before .before .before .before in
+    let A = start .args in
+    let L = c .before .before .before .loop in
+    let m : L .at + (L .size - L .size / 2) - 1 < A .n = omega arith in
+    let h = take-upto (λ y. A .x ≺ y) (A .a .now) (A .n) _ nan (start .pre .0) m (c .if1 .taken) in
+    (L .inv .0, omega arith, omega arith)
+
+loop-less-2 : tie.Need-loop-less-2 Inv-loop μ-loop
+loop-less-2 c = omega arith
+
+loop-again-2 : tie.Need-loop-again-2 Inv-loop μ-loop
+loop-again-2 c =
+    let start = c .before .before .before .before in
+    let A = start .args in
+    let L = c .before .before .before .loop in
+    let m : L .at + (L .size - L .size / 2) - 1 < A .n = omega arith in
+    let r = above-rises (A .x) (start .pre .2) (take (A .n) (A .a .now)) (start .pre .1) in
+    let h = take-past (λ y. A .x ≺ y) (A .a .now) (A .n) _ nan (start .pre .0) m r (c .if1 .left) in
+    (omega arith, omega arith, omega arith)
 
 returns : tie.Need-returns Inv-loop μ-loop
-returns c =
-    let I = c .before .loop .inv in
-    let E : c .before .loop .i ≡ c .before .before .args .n = omega arith in
-    sym E ∙ look-end _ _ _ nan _ (I .0) (c .if1 .taken) (I .2)
-
-returns-2 : tie.Need-returns-2 Inv-loop μ-loop
-returns-2 c =
-    let I = c .before .before .before .loop .inv in
-    look-hit _ _ _ _ _ (I .0) (c .before .before .if1 .left) (c .if2 .taken) (I .2)
+returns c = omega arith
 
 pub first-above-spec : {M : Type 1} → statement M
 first-above-spec =
@@ -53,10 +73,13 @@ first-above-spec =
     Inv-loop
     μ-loop
     loop-holds
-    mul-if2
-    shared-slice-read-if2
-    add-i
+    sub-next
+    add-next
+    sub-if1
+    mul-if1
+    shared-slice-read-if1
     loop-less
     loop-again
-    returns
-    returns-2)
+    loop-less-2
+    loop-again-2
+    returns)

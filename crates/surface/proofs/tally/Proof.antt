@@ -3,7 +3,7 @@ use Rattle.chart.proofs.Filing.{Filing, home-of, file-start, file-few, file-put
 use Rattle.chart.proofs.Kept.{quotes-at, quotes-end, length-quotes}
 use Rattle.chart.specs.Quotes.{quotes}
 use Rattle.chart.specs.Axis.{place}
-use Rattle.chart.specs.Steps.{axesOf}
+use Rattle.chart.specs.Steps.{axesOf, OnAxis}
 use Prim.Native.Nat.{ℕ, _-_, _≤_, _<_}
 use mathlib.Core.Path.{_≡_, refl, sym, _∙_}
 use lib.ListN.{length, getD}
@@ -18,14 +18,21 @@ Inv-loop sums₀ numbers₀ strikes expiries volatilities n columns rows i₀ su
 abbrev μ-loop : tie.MeasureT-loop
 μ-loop sums₀ numbers₀ strikes expiries volatilities n columns rows i₀ sums numbers i = n - i
 
--- the places of the quote at i
+-- the quote at i stands on both axes
+stood : (s : tie.Start Inv-loop μ-loop) (i : ℕ) → i < s .args .n
+    → OnAxis (s .args .rows .now) (getD (s .args .expiries .now) i nan) × OnAxis (s .args .columns .now) (getD (s .args .strikes .now) i nan)
+stood s i h =
+    let A = s .args in
+    let P = s .pre in
+    home-of (A .columns .now) (A .rows .now) (A .strikes .now) (A .expiries .now) (A .volatilities .now) (A .n) i (P .1 .0 .1) (P .1 .0 .2) (P .1 .0 .3) h
+    (P .1 .1 .0)
+
 homes : (s : tie.Start Inv-loop μ-loop) (i : ℕ) → i < s .args .n
     → (place (s .args .rows .now) (getD (s .args .expiries .now) i nan) < 32) × (place (s .args .columns .now) (getD (s .args .strikes .now) i nan) < 64)
 homes s i h =
-    let A = s .args in
     let P = s .pre in
-    let m = home-of (A .columns .now) (A .rows .now) (A .strikes .now) (A .expiries .now) (A .volatilities .now) (A .n) i (P .1 .0 .1) (P .1 .0 .2) (P .1 .0 .3) h (P .1 .1 .0) in
-    (omega (arith, m .0, P .0 .1), omega (arith, m .1, P .0 .0))
+    let m = stood s i h in
+    (omega (arith, m .0 .inside, P .0 .1), omega (arith, m .1 .inside, P .0 .0))
 
 -- how many quotes there are
 sized : (s : tie.Start Inv-loop μ-loop) → length (quotes (s .args .n) (s .args .strikes .now) (s .args .expiries .now) (s .args .volatilities .now)) ≡ s .args .n
@@ -50,7 +57,10 @@ shared-slice-read-home-2 : tie.Need-shared-slice-read-home-2 Inv-loop μ-loop
 shared-slice-read-home-2 c = omega arith
 
 home-requires : tie.Need-home-requires Inv-loop μ-loop
-home-requires c κs = homes (c .before .before .before .before .before .before .before .before .before .before .before) _ (c .before .before .loop-test .taken)
+home-requires c κs =
+    let start = c .before .before .before .before .before .before .before .before .before .before .before in
+    let m = stood start _ (c .before .before .loop-test .taken) in
+    (m .0, m .1, start .pre .0 .1, start .pre .0 .0)
 
 mul-sums : tie.Need-mul-sums Inv-loop μ-loop
 mul-sums c = omega arith
