@@ -1,4 +1,4 @@
-"""Holds docs/TRACE.md, README.md and the lists of refusals to what is in the tree. Run: python3 tests/test_documents.py"""
+"""Holds docs/TRACE.md, README.md, the lists of refusals and the hosts' declarations to what is in the tree. Run: python3 tests/test_documents.py"""
 
 import re
 import sys
@@ -85,6 +85,49 @@ class Refusals(unittest.TestCase):
         rows = re.findall(r'^\| [^|]*\| ([\d, :]+[^|]*) \|$', (ROOT / 'docs/REFUSALS.md').read_text(), re.M)
         self.assertGreater(len(rows), 12)
         self.assertEqual({number for row in rows for number in re.findall(r'\d+', row)}, set(self.LISTED))
+
+    def test_the_table_names_calls(self):
+        calls = {name for file in ROOT.glob('crates/*/src/lib.rt') for name in re.findall(r'^pub fn (\w+)', file.read_text(), re.M)}
+        cells = re.findall(r'^\| ([^|]*`[^|]*) \| \d', (ROOT / 'docs/REFUSALS.md').read_text(), re.M)
+        named = [name for cell in cells for name in re.findall(r'`(\w+)`', cell)]
+        self.assertIn('quote_tray', named)
+        self.assertEqual([name for name in named if name not in calls], [])
+
+
+class Hosts(unittest.TestCase):
+    """A linker compares names alone: that the hosts pass what an exported function takes is held here."""
+
+    C = {'bool': 'bool', 'f64': 'double', 'u64': 'uint64_t'}
+    # A parameter's type in crates/host, and the same parameter in C and in Rust: {0} is its name, {1} the type of a number, {2} how many.
+    SHAPES = (
+        (r'(\w+)', '{1} {0}', '{0}: {1}'),
+        (r'&mut (\w+)', '{1} *{0}', '{0}: &mut {1}'),
+        (r'&mut \[(\w+); (\d+)\]', '{1} {0}[{2}]', '{0}: &mut [{1}; {2}]'),
+        (r'&\[(\w+)\]', 'const {1} *{0}, size_t {0}_len', '{0}: *const {1}, {0}_len: usize'),
+        (r'&mut \[(\w+)\]', '{1} *{0}, size_t {0}_len', '{0}: *mut {1}, {0}_len: usize'),
+        (r'&\[\[(\w+); (\d+)\]\]', 'const {1} (*{0})[{2}], size_t {0}_len', '{0}: *const [{1}; {2}], {0}_len: usize'),
+        (r'&mut \[\[(\w+); (\d+)\]\]', '{1} (*{0})[{2}], size_t {0}_len', '{0}: *mut [{1}; {2}], {0}_len: usize'),
+    )
+
+    def parameters(self, text):
+        """The parameters of an exported function, in C and in Rust."""
+        for name, kind in re.findall(r'(\w+): ([^,]+)', text):
+            (found, in_c, in_rust), = [(re.fullmatch(shape, kind), *more) for shape, *more in self.SHAPES if re.fullmatch(shape, kind)]
+            number, *count = found.groups()
+            yield in_c.format(name, self.C[number], *count), in_rust.format(name, number, *count)
+
+    def test_the_declarations_are_those_of_the_library(self):
+        exported = re.findall(r'^pub extern "C" fn (\w+)\((.*?)\) -> (\w+)$', (ROOT / 'crates/host/src/lib.rt').read_text(), re.M | re.S)
+        self.assertIn('kite_quote_tray', [name for name, *_ in exported])
+        c, rust = set(), set()
+        for name, taken, given in exported:
+            in_c, in_rust = zip(*self.parameters(taken))
+            c.add(f'{self.C[given]} {name}({", ".join(in_c)})')
+            rust.add(f'{name}({", ".join(in_rust)}) -> {given}')
+        header = re.findall(r'^(?:double|uint64_t) \w+\(.*?\)(?=;$)', (ROOT / 'hosts/c/kitesettee.h').read_text(), re.M | re.S)
+        declared = re.findall(r'pub fn (\w+\(.*?\) -> \w+);', (ROOT / 'hosts/rust/src/ffi.rs').read_text(), re.S)
+        self.assertEqual({re.sub(r'\s+', ' ', found) for found in header}, c)
+        self.assertEqual({re.sub(r',? (?=\))', '', re.sub(r'\s+', ' ', found)).replace('( ', '(') for found in declared}, rust)
 
 
 if __name__ == '__main__':

@@ -13,7 +13,7 @@
 #define SLICE(a) (a), COUNT(a)
 
 enum kind { CALL, PUT, VOLATILITY };
-static const char *const kinds[] = {"call", "put", "volatility"};
+static const char *const names[] = {"call", "put", "volatility"};
 
 struct offer {
     enum kind kind;
@@ -52,6 +52,27 @@ static void answer(uint64_t n, double x)
     printf("\n");
 }
 
+/* A volatility, with its evidence where a solver found it; or the refusal. */
+static void solved(uint64_t n, uint64_t evaluations, const double values[4])
+{
+    if (n != KITE_DONE) {
+        printf(" %" PRIu64 " evaluations,", evaluations);
+        refused(n);
+        return;
+    }
+    result(values[0]);
+    if (evaluations > 0) {
+        printf(", error");
+        result(values[1]);
+        printf(", c");
+        result(values[2]);
+        printf(", its error");
+        result(values[3]);
+        printf(", %" PRIu64 " evaluations", evaluations);
+    }
+    printf("\n");
+}
+
 /* What a book lends to a call: columns for the quotes, buffers for the surface. */
 static double strikes[KITE_QUOTES], expiries[KITE_QUOTES], volatilities[KITE_QUOTES];
 static double strike_axis[KITE_STRIKES], expiry_axis[KITE_EXPIRIES], grid[KITE_CELLS];
@@ -65,35 +86,36 @@ static void tray(void)
         {VOLATILITY, 100.0, 1.0, 0.24}, {PUT, 95.0, 1.0, NAN},   {VOLATILITY, 100.0 + hair, 1.0, 0.26}, {VOLATILITY, 105.0, 1.0, 12.0},
         {CALL, 105.0, 1.0, 8.2},        {CALL, 100.0, 0.5, 150.0},
     };
-    bool prices[COUNT(offers)], puts[COUNT(offers)];
-    double ks[COUNT(offers)], ts[COUNT(offers)], vs[COUNT(offers)], solved[COUNT(offers)] = {0.0};
-    uint64_t numbers[COUNT(offers)] = {0}, record[4] = {0}, lengths[2] = {0};
+    bool kinds[COUNT(offers)][2];
+    double figures[COUNT(offers)][3], evidence[COUNT(offers)][4] = {{0.0}};
+    uint64_t numbers[COUNT(offers)][2] = {{0}}, totals[4] = {0}, lengths[2] = {0};
     for (size_t i = 0; i < COUNT(offers); i++) {
-        prices[i] = offers[i].kind != VOLATILITY;
-        puts[i] = offers[i].kind == PUT;
-        ks[i] = offers[i].strike;
-        ts[i] = offers[i].expiry;
-        vs[i] = offers[i].value;
+        kinds[i][0] = offers[i].kind != VOLATILITY;
+        kinds[i][1] = offers[i].kind == PUT;
+        figures[i][0] = offers[i].strike;
+        figures[i][1] = offers[i].expiry;
+        figures[i][2] = offers[i].value;
     }
-    uint64_t n = kite_quote_tray(spot, rate, SLICE(prices), SLICE(puts), SLICE(ks), SLICE(ts), SLICE(vs), SLICE(numbers), SLICE(solved),
-                                 SLICE(strikes), SLICE(expiries), SLICE(volatilities), SLICE(strike_axis), SLICE(expiry_axis), SLICE(grid),
-                                 SLICE(counts), record, lengths);
+    /* The casts are for C before C23, which does not turn rows into const ones by itself. */
+    uint64_t n = kite_quote_tray(spot, rate, (const bool(*)[2])kinds, COUNT(kinds), (const double(*)[3])figures, COUNT(figures), SLICE(numbers),
+                                 SLICE(evidence), SLICE(strikes), SLICE(expiries), SLICE(volatilities), SLICE(strike_axis), SLICE(expiry_axis),
+                                 SLICE(grid), SLICE(counts), totals, lengths);
     if (n == KITE_SPOT || n == KITE_RATE) {
         printf("the book does not open:");
         refused(n);
         return;
     }
     for (size_t i = 0; i < COUNT(offers); i++) {
-        printf("offer %zu: %s, strike", i + 1, kinds[offers[i].kind]);
-        number(ks[i]);
+        printf("offer %zu: %s, strike", i + 1, names[offers[i].kind]);
+        number(offers[i].strike);
         printf(", expiry");
-        number(ts[i]);
+        number(offers[i].expiry);
         printf(", value");
-        number(vs[i]);
+        number(offers[i].value);
         printf(":");
-        answer(numbers[i], solved[i]);
+        solved(numbers[i][0], numbers[i][1], evidence[i]);
     }
-    printf("kept %" PRIu64 ", refused %" PRIu64 ", heard %" PRIu64 ", evaluations %" PRIu64 "\n", record[0], record[1], record[2], record[3]);
+    printf("kept %" PRIu64 ", refused %" PRIu64 ", heard %" PRIu64 ", evaluations %" PRIu64 "\n", totals[0], totals[1], totals[2], totals[3]);
     if (n != KITE_DONE) {
         printf("no surface:");
         refused(n);
@@ -127,18 +149,18 @@ static void tray(void)
 
 static void missing_rate(void)
 {
-    const bool none[1] = {false};
-    const double empty[1] = {0.0};
-    uint64_t numbers[1], record[4], lengths[2];
-    double solved[1];
+    const bool kinds[1][2] = {{false}};
+    const double figures[1][3] = {{0.0}};
+    double evidence[1][4];
+    uint64_t numbers[1][2], totals[4], lengths[2];
     printf("a tray without a rate:");
-    refused(kite_quote_tray(100.0, NAN, none, 0, none, 0, empty, 0, empty, 0, empty, 0, numbers, 0, solved, 0, SLICE(strikes), SLICE(expiries),
-                            SLICE(volatilities), SLICE(strike_axis), SLICE(expiry_axis), SLICE(grid), SLICE(counts), record, lengths));
+    refused(kite_quote_tray(100.0, NAN, kinds, 0, figures, 0, numbers, 0, evidence, 0, SLICE(strikes), SLICE(expiries), SLICE(volatilities),
+                            SLICE(strike_axis), SLICE(expiry_axis), SLICE(grid), SLICE(counts), totals, lengths));
 }
 
 static void option(void)
 {
-    static const char *const names[7] = {"delta", "gamma", "theta", "vega", "rho", "vanna", "volga"};
+    static const char *const greek[7] = {"delta", "gamma", "theta", "vega", "rho", "vanna", "volga"};
     double price, greeks[7], values[4];
     uint64_t evaluations;
     printf("a put at 105:");
@@ -146,27 +168,15 @@ static void option(void)
     answer(n, price);
     n = kite_bsm_greeks(true, 100.0, 105.0, 0.5, 0.03, 0.25, greeks);
     for (int i = 0; n == KITE_DONE && i < 7; i++) {
-        printf("%s:", names[i]);
+        printf("%s:", greek[i]);
         answer(n, greeks[i]);
     }
     printf("its volatility:");
     n = kite_implied_volatility(true, price, 100.0, 105.0, 0.5, 0.03, values, &evaluations);
-    if (n != KITE_DONE) {
-        refused(n);
-    } else {
-        result(values[0]);
-        printf(", error");
-        result(values[1]);
-        printf(", c");
-        result(values[2]);
-        printf(", its error");
-        result(values[3]);
-        printf(", %" PRIu64 " evaluations\n", evaluations);
-    }
+    solved(n, evaluations, values);
     printf("a price of 150:");
     n = kite_implied_volatility(false, 150.0, 100.0, 105.0, 0.5, 0.03, values, &evaluations);
-    printf(" %" PRIu64 " evaluations,", evaluations);
-    answer(n, values[0]);
+    solved(n, evaluations, values);
 }
 
 /* The surface of two quotes by itself, and the gap filler on a row of five. */

@@ -132,27 +132,34 @@ uint64_t kite_implied_volatility(bool put, double market, double spot, double st
 /*
  * Opens a fresh book on spot and rate, offers it the list in order, and builds the surface of what was kept: the morning load in one call.
  *
- * Offer i is a price (prices[i] true: of a put where puts[i] is true, else of a call) or a volatility (prices[i] false; puts[i] is then
- * ignored), with strike ks[i], expiry ts[i] and value vs[i]. The list is as long as the shortest of the seven slices prices, puts, ks, ts,
- * vs, numbers and solved.
+ * Offers and answers are rows of fixed length, one row after the other without a gap, so that `bool kinds[n][2]` or n times two bools in
+ * one block will do; a slice's length counts its rows. The list is as long as the shortest of these four:
  *
- * Written: numbers[i], 0 where offer i was accepted, else its refusal (1, 3, 4, 5, 7, 8, 10, or 12 and 13 from its solver); solved[i], the
- * volatility accepted, else 0.0; to the columns strikes, expiries and volatilities (at least 1,024 entries each) the accepted quotes in
- * order, nothing past them; to record kept, refused, heard and evaluations, where kept + refused = heard; the surface and lengths as
- * kite_build does.
+ *     kinds[i]     read     whether offer i is a price (false: it is a volatility), and whether of a put (else of a call; ignored of a volatility)
+ *     figures[i]   read     its strike, its expiry and its value: the market price, or the volatility
+ *     numbers[i]   written  0 where it was accepted, else its refusal (1, 3, 4, 5, 7, 8, 10, or 12 and 13 from its solver); its evaluations
+ *     evidence[i]  written  its volatility, the error there, the point c and the error there
  *
- * Returns 0, or one number. The opening's are 6 (spot) and 9 (rate): record and lengths are then 0, and nothing else is touched. The
- * build's are 1, 15, 16 and 17: the offers were heard all the same, numbers, solved, columns and record are as above, lengths are 0 and
+ * A price that 1, 3 and 4 let through is answered as kite_implied_volatility answers it, evidence included. An accepted volatility is its own
+ * answer: the three figures after it are 0.0, with 0 evaluations. A refused offer's evidence is four times 0.0; its evaluations are those that
+ * its solver made, if any.
+ *
+ * Written too: to the columns strikes, expiries and volatilities (at least 1,024 entries each) the accepted quotes in order, nothing past
+ * them; to totals kept, refused, heard and evaluations, where kept + refused = heard; the surface and lengths as kite_build does.
+ *
+ * Returns 0, or one number. The opening's are 6 (spot) and 9 (rate): totals and lengths are then 0, and nothing else is touched. The
+ * build's are 1, 15, 16 and 17: the offers were heard all the same, numbers, evidence, columns and totals are as above, lengths are 0 and
  * the four surface buffers as they were. (Under 1, a short column, each offer was answered 1 and not counted.)
+ *
+ * C before C23 does not turn rows into const ones by itself: pass (const bool (*)[2])kinds where kinds is not const, and figures so.
  */
 uint64_t kite_quote_tray(double spot, double rate,
-                         const bool *prices, size_t prices_len, const bool *puts, size_t puts_len,
-                         const double *ks, size_t ks_len, const double *ts, size_t ts_len, const double *vs, size_t vs_len,
-                         uint64_t *numbers, size_t numbers_len, double *solved, size_t solved_len,
+                         const bool (*kinds)[2], size_t kinds_len, const double (*figures)[3], size_t figures_len,
+                         uint64_t (*numbers)[2], size_t numbers_len, double (*evidence)[4], size_t evidence_len,
                          double *strikes, size_t strikes_len, double *expiries, size_t expiries_len, double *volatilities, size_t volatilities_len,
                          double *strike_axis, size_t strike_axis_len, double *expiry_axis, size_t expiry_axis_len,
                          double *grid, size_t grid_len, uint64_t *counts, size_t counts_len,
-                         uint64_t record[4], uint64_t lengths[2]);
+                         uint64_t totals[4], uint64_t lengths[2]);
 
 /* ---- a surface */
 
@@ -180,8 +187,8 @@ uint64_t kite_fill_gaps(double *grid, size_t grid_len, uint64_t strikes, uint64_
  * Writes the volatility at a strike and an expiry, by bilinear interpolation. Refusals: 2 more than 64 strikes or 32 expiries, 15 a short
  * buffer, 18 no surface, 19 strike, 20 expiry or a gap; *volatility is then 0.0.
  */
-uint64_t kite_interpolate(const double *strike_axis, size_t strike_axis_len, const double *expiry_axis, size_t expiry_axis_len, const double *grid, size_t grid_len,
-                          uint64_t strikes, uint64_t expiries, double strike, double expiry, double *volatility);
+uint64_t kite_interpolate(const double *strike_axis, size_t strike_axis_len, const double *expiry_axis, size_t expiry_axis_len,
+                          const double *grid, size_t grid_len, uint64_t strikes, uint64_t expiries, double strike, double expiry, double *volatility);
 
 /* The same at the middle strike, that at index strikes / 2. Refusals: 2, 15, 18 and 20, as above. */
 uint64_t kite_atm_vol(const double *strike_axis, size_t strike_axis_len, const double *expiry_axis, size_t expiry_axis_len, const double *grid, size_t grid_len,

@@ -121,11 +121,13 @@ pub fn read(b: &Buffers, strike: Option<f64>, expiry: f64) -> (u64, f64) {
     (number, out)
 }
 
-/// What a tray is answered with: a number and a volatility an offer, the three columns, the record's counts, and the surface.
+/// What a tray is answered with: two rows an offer, the three columns, the record's counts, and the surface.
 #[derive(Clone)]
 pub struct Tray {
-    pub numbers: Vec<u64>,
-    pub solved: Vec<f64>,
+    /// Number, evaluations.
+    pub numbers: Vec<[u64; 2]>,
+    /// Volatility, error, point c, error there.
+    pub evidence: Vec<[f64; 4]>,
     pub strikes: Vec<f64>,
     pub expiries: Vec<f64>,
     pub volatilities: Vec<f64>,
@@ -137,8 +139,8 @@ pub struct Tray {
 impl Tray {
     pub fn new(offers: usize) -> Self {
         Tray {
-            numbers: vec![1234; offers],
-            solved: vec![UNWRITTEN; offers],
+            numbers: vec![[1234; 2]; offers],
+            evidence: vec![[UNWRITTEN; 4]; offers],
             strikes: vec![UNWRITTEN; 1024],
             expiries: vec![UNWRITTEN; 1024],
             volatilities: vec![UNWRITTEN; 1024],
@@ -146,32 +148,30 @@ impl Tray {
             totals: [1234; 4],
         }
     }
+    /// Whether no offer has an answer.
+    pub fn unanswered(&self) -> bool {
+        self.numbers.iter().all(|row| *row == [1234; 2]) && self.evidence.iter().all(|row| *row == [UNWRITTEN; 4])
+    }
     /// Whether the columns past the first `kept` entries are as at first.
     pub fn rest_untouched(&self, kept: usize) -> bool {
         [&self.strikes, &self.expiries, &self.volatilities].iter().all(|c| c.iter().skip(kept).all(|x| *x == UNWRITTEN))
     }
 }
 
-pub fn quote_tray(spot: f64, rate: f64, prices: &[bool], puts: &[bool], ks: &[f64], ts: &[f64], vs: &[f64], t: &mut Tray) -> u64 {
+pub fn quote_tray(spot: f64, rate: f64, kinds: &[[bool; 2]], figures: &[[f64; 3]], t: &mut Tray) -> u64 {
     let b = &mut t.buffers;
     unsafe {
         kite_quote_tray(
             spot,
             rate,
-            prices.as_ptr(),
-            prices.len(),
-            puts.as_ptr(),
-            puts.len(),
-            ks.as_ptr(),
-            ks.len(),
-            ts.as_ptr(),
-            ts.len(),
-            vs.as_ptr(),
-            vs.len(),
+            kinds.as_ptr(),
+            kinds.len(),
+            figures.as_ptr(),
+            figures.len(),
             t.numbers.as_mut_ptr(),
             t.numbers.len(),
-            t.solved.as_mut_ptr(),
-            t.solved.len(),
+            t.evidence.as_mut_ptr(),
+            t.evidence.len(),
             t.strikes.as_mut_ptr(),
             t.strikes.len(),
             t.expiries.as_mut_ptr(),

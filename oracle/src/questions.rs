@@ -584,26 +584,22 @@ pub fn gaps(r: &mut Random, family: Family) -> Vec<Vec<f64>> {
 pub struct Offers {
     pub spot: f64,
     pub rate: f64,
-    pub prices: Vec<bool>,
-    pub puts: Vec<bool>,
-    pub strikes: Vec<f64>,
-    pub expiries: Vec<f64>,
-    pub values: Vec<f64>,
+    /// Of each offer: whether it is a price, and of a put.
+    pub kinds: Vec<[bool; 2]>,
+    /// Of each offer: strike, expiry, value.
+    pub figures: Vec<[f64; 3]>,
 }
 
 impl Offers {
     pub fn push(&mut self, price: bool, put: bool, strike: f64, expiry: f64, value: f64) {
-        self.prices.push(price);
-        self.puts.push(put);
-        self.strikes.push(strike);
-        self.expiries.push(expiry);
-        self.values.push(value);
+        self.kinds.push([price, put]);
+        self.figures.push([strike, expiry, value]);
     }
     pub fn len(&self) -> usize {
-        self.prices.len()
+        self.kinds.len()
     }
     pub fn is_empty(&self) -> bool {
-        self.prices.is_empty()
+        self.kinds.is_empty()
     }
 }
 

@@ -2,22 +2,25 @@
 ghost use mathlib.Core.Path.{_≡_};
 ghost use Prim.Native.Nat.{_+_, _<_, _≤_};
 ghost use Rattle.limits.specs.Checks.{none};
-ghost use Rattle.ledger.specs.Model.{bsm, volatility, priced};
-ghost use Rattle.ledger.specs.Book.{columns, fresh, openRefusal, opened, outcomeOfOpening, shorter, isBroken, entryRefusal, ownRefusal, answer, openingOf, keptBook, turnedBook};
-ghost use Rattle.ledger.specs.Build.{buffers, BuildsBook};
-ghost use Rattle.ledger.specs.Calls.{Replies, Offers, Turned, Solves};
+ghost use Rattle.ledger.specs.Model.{bsm, badPrice, badVolatility};
+ghost use Rattle.ledger.specs.Book.{columnsOf, fresh, openRefusal, opened, outcomeOfOpening};
+ghost use Rattle.ledger.specs.Book.{shorter, isBroken, ownRefusal, offerRefusal, answer, offerOutcome, openingOf, keptBook, turnedBook, filed};
+ghost use Rattle.ledger.specs.Build.{buffersOf, BuildsBook};
+ghost use Rattle.ledger.specs.Calls.{Replies, Offers, Within, Turned, Solves};
 ghost use Rattle.limits.specs.Outcome.{refused};
 ghost use Rattle.brent.specs.Outcome.{zeros};
 ghost use Rattle.greeks.specs.Implied.{outcomeOfImplied};
-ghost use lib.ListN.{length, set};
 ghost use mathlib.Core.Bool.{false};
+use brent::Solution;
 use chart::Built;
 use greeks::Implied;
 use greeks::OptionParams;
-use greeks::OptionType;
 use ledger::Book;
 use ledger::Heard;
+use ledger::Offer;
 use ledger::Opened;
+use ledger::Terms;
+use limits::first;
 
 // ---- the opening
 
@@ -37,13 +40,11 @@ fn fresh(spot: f64, rate: f64) -> Book
 fn open_number(spot: f64, rate: f64) -> u64
     ensures { λ r. ⌜ r ≡ openRefusal (record { spot = spot; rate = rate }) ⌝ }
 {
-    if !limits::is_spot(spot) {
-        return 6;
-    }
-    if !limits::is_rate(rate) {
-        return 9;
-    }
-    0
+    first(
+        !limits::is_spot(spot),
+        6,
+        first(!limits::is_rate(rate), 9, 0),
+    )
 }
 
 // Checks 6 and 9. A refused opening returns a record of zeros.
@@ -96,66 +97,59 @@ fn is_broken(b: Book) -> bool
     !limits::is_rate(b.rate)
 }
 
-// 1 to 4.
-fn entry_number(short: bool, b: Book) -> u64
-    ensures { λ r. ⌜ r ≡ entryRefusal short b none ⌝ }
+// 5: a market price. A volatility has none.
+fn bad_price(terms: Terms) -> bool
+    ensures { λ r. ⌜ r ≡ badPrice terms ⌝ }
 {
-    if short {
-        return 1;
+    match terms {
+        Terms::Volatility { v: _ } => false,
+        Terms::Price { kind: _, market } => !limits::is_price(market),
     }
-    if is_broken(b) {
-        return 2;
-    }
-    if b.heard >= 60000 {
-        return 3;
-    }
-    if b.kept >= 1024 {
-        return 4;
-    }
-    0
 }
 
-// 1 to 4, then the offer's own number.
-fn offer_number(short: bool, b: Book, own: u64) -> u64
-    ensures { λ r. ⌜ r ≡ entryRefusal short b own ⌝ }
+// 10: an offered volatility. A price has none yet.
+fn bad_volatility(terms: Terms) -> bool
+    ensures { λ r. ⌜ r ≡ badVolatility terms ⌝ }
 {
-    let number = entry_number(short, b);
-    if number != 0 {
-        return number;
+    match terms {
+        Terms::Volatility { v } => !limits::is_volatility(v),
+        Terms::Price { kind: _, market: _ } => false,
     }
-    own
 }
 
-// 7, 8, 10.
-fn volatility_number(strike: f64, expiry: f64, v: f64) -> u64
-    ensures { λ r. ⌜ r ≡ ownRefusal (volatility strike expiry v) ⌝ }
+// The offer's own: 5, 7, 8, 10.
+fn own_number(o: Offer) -> u64
+    ensures { λ r. ⌜ r ≡ ownRefusal o ⌝ }
 {
-    if !limits::is_strike(strike) {
-        return 7;
-    }
-    if !limits::is_expiry(expiry) {
-        return 8;
-    }
-    if !limits::is_volatility(v) {
-        return 10;
-    }
-    0
+    let terms = o.terms;
+    first(
+        bad_price(terms),
+        5,
+        first(
+            !limits::is_strike(o.strike),
+            7,
+            first(
+                !limits::is_expiry(o.expiry),
+                8,
+                first(bad_volatility(terms), 10, 0),
+            ),
+        ),
+    )
 }
 
-// 5, 7, 8.
-fn price_number(kind: OptionType, strike: f64, expiry: f64, market: f64) -> u64
-    ensures { λ r. ⌜ r ≡ ownRefusal (priced kind strike expiry market) ⌝ }
+// 1 to 4, then the offer's own.
+fn offer_number(short: bool, b: Book, o: Offer) -> u64
+    ensures { λ r. ⌜ r ≡ offerRefusal short b o ⌝ }
 {
-    if !limits::is_price(market) {
-        return 5;
-    }
-    if !limits::is_strike(strike) {
-        return 7;
-    }
-    if !limits::is_expiry(expiry) {
-        return 8;
-    }
-    0
+    first(
+        short,
+        1,
+        first(
+            is_broken(b),
+            2,
+            first(b.heard >= 60000, 3, first(b.kept >= 1024, 4, own_number(o))),
+        ),
+    )
 }
 
 // ---- what an offer leaves
@@ -192,7 +186,7 @@ fn turned(b: Book, evaluations: u64) -> Book
 
 // A check holds: 1 to 3 keep the record, 4 and the offer's own are counted.
 fn refuse(b: Book, number: u64) -> Heard
-    requires { ⌜ (3 < number → isBroken b ≡ false) × (3 < number → b .heard < 60000) ⌝ }
+    requires { ⌜ (3 < number → (isBroken b ≡ false) × (b .heard < 60000)) ⌝ }
     ensures { λ r. ⌜ Replies (refused number (zeros 0)) b r ⌝ }
 {
     let answer = Implied::Refused {
@@ -205,57 +199,6 @@ fn refuse(b: Book, number: u64) -> Heard
     Heard {
         book: turned(b, 0),
         answer,
-    }
-}
-
-// The three columns at one place.
-fn file(
-    at: usize,
-    strike: f64,
-    expiry: f64,
-    sigma: f64,
-    strikes: &mut [f64],
-    expiries: &mut [f64],
-    volatilities: &mut [f64],
-)
-    requires { ⌜ (at < length (now strikes)) × (at < length (now expiries)) × (at < length (now volatilities)) ⌝ }
-    ensures { λ _. ⌜ columns (now (strikes .exit)) (now (expiries .exit)) (now (volatilities .exit)) ≡ columns (set (now (strikes .entry)) at strike) (set (now (expiries .entry)) at expiry) (set (now (volatilities .entry)) at sigma) ⌝ }
-{
-    strikes[at] = strike;
-    expiries[at] = expiry;
-    volatilities[at] = sigma;
-}
-
-// ---- the offers
-
-// A strike and an expiry with a volatility: checks 1 to 4, 7, 8, 10.
-pub fn offer_volatility(
-    book: Book,
-    strike: f64,
-    expiry: f64,
-    sigma: f64,
-    strikes: &mut [f64],
-    expiries: &mut [f64],
-    volatilities: &mut [f64],
-) -> Heard
-    ensures { λ r. ⌜ Offers bsm book (columns (now (strikes .entry)) (now (expiries .entry)) (now (volatilities .entry))) (volatility strike expiry sigma) r (columns (now (strikes .exit)) (now (expiries .exit)) (now (volatilities .exit))) ⌝ }
-{
-    let short = is_short(strikes.len(), expiries.len(), volatilities.len());
-    let number = offer_number(short, book, volatility_number(strike, expiry, sigma));
-    if number != 0 {
-        return refuse(book, number);
-    }
-    let at = book.kept as usize;
-    file(at, strike, expiry, sigma, strikes, expiries, volatilities);
-    Heard {
-        book: kept(book, 0),
-        answer: Implied::Found {
-            volatility: sigma,
-            error: 0.0,
-            c: 0.0,
-            c_error: 0.0,
-            evaluations: 0,
-        },
     }
 }
 
@@ -277,113 +220,103 @@ fn hand_on(b: Book, answer: Implied) -> Heard
     }
 }
 
-// The solver on the model's prices, once no check holds.
-fn solve(b: Book, kind: OptionType, strike: f64, expiry: f64, price: f64) -> Implied
-    requires { ⌜ (isBroken b ≡ false) × (ownRefusal (priced kind strike expiry price) ≡ none) ⌝ }
-    ensures { λ r. ⌜ Solves (answer bsm (openingOf b) (priced kind strike expiry price)) (outcomeOfImplied r) ⌝ }
+// ---- the offers
+
+// What the terms come to, once no check holds: the volatility offered, or the solver's answer on the model's prices.
+fn answer(b: Book, o: Offer) -> Implied
+    requires { ⌜ (isBroken b ≡ false) × (ownRefusal o ≡ none) ⌝ }
+    ensures { λ r. ⌜ Solves (answer bsm (openingOf b) o) (outcomeOfImplied r) ⌝ }
 {
-    greeks::implied_volatility(
-        price,
-        OptionParams {
-            spot: b.spot,
-            strike,
-            time_to_expiry: expiry,
-            risk_free_rate: b.rate,
-            volatility: 0.0,
-            option_type: kind,
+    let terms = o.terms;
+    match terms {
+        Terms::Volatility { v } => Implied::Found {
+            solution: Solution {
+                volatility: v,
+                error: 0.0,
+                c: 0.0,
+                c_error: 0.0,
+                evaluations: 0,
+            },
         },
-    )
+        Terms::Price { kind, market } => greeks::implied_volatility(
+            market,
+            OptionParams {
+                spot: b.spot,
+                strike: o.strike,
+                time_to_expiry: o.expiry,
+                risk_free_rate: b.rate,
+                volatility: 0.0,
+                option_type: kind,
+            },
+        ),
+    }
 }
 
-// A strike and an expiry with a price of either kind: checks 1 to 5, 7, 8, then the solver.
-fn offer_price(
-    book: Book,
-    kind: OptionType,
-    strike: f64,
-    expiry: f64,
-    price: f64,
-    strikes: &mut [f64],
-    expiries: &mut [f64],
-    volatilities: &mut [f64],
-) -> Heard
-    ensures { λ r. ⌜ Offers bsm book (columns (now (strikes .entry)) (now (expiries .entry)) (now (volatilities .entry))) (priced kind strike expiry price) r (columns (now (strikes .exit)) (now (expiries .exit)) (now (volatilities .exit))) ⌝ }
+// The answer to an offer and the record after it, by value: all checks, then the solver. `short` says whether 1 holds of the columns.
+fn decide(b: Book, short: bool, o: Offer) -> Heard
+    ensures { λ r. ⌜ Replies (offerOutcome bsm short b o) b r ⌝ }
 {
-    let short = is_short(strikes.len(), expiries.len(), volatilities.len());
-    let number = offer_number(short, book, price_number(kind, strike, expiry, price));
+    let number = offer_number(short, b, o);
     if number != 0 {
-        return refuse(book, number);
+        return refuse(b, number);
     }
-    let answer = solve(book, kind, strike, expiry, price);
-    let Implied::Found {
-        volatility,
-        error: _,
-        c: _,
-        c_error: _,
-        evaluations,
-    } = answer
-    else {
-        return hand_on(book, answer);
+    let answer = answer(b, o);
+    let Implied::Found { solution } = answer else {
+        return hand_on(b, answer);
     };
-    let at = book.kept as usize;
-    file(
-        at,
-        strike,
-        expiry,
-        volatility,
-        strikes,
-        expiries,
-        volatilities,
-    );
     Heard {
-        book: kept(book, evaluations),
+        book: kept(b, solution.evaluations),
         answer,
     }
 }
 
-pub fn offer_call(
-    book: Book,
-    strike: f64,
-    expiry: f64,
-    price: f64,
+// The columns at one place.
+fn file(
+    at: usize,
+    o: Offer,
+    v: f64,
     strikes: &mut [f64],
     expiries: &mut [f64],
     volatilities: &mut [f64],
-) -> Heard
-    ensures { λ r. ⌜ Offers bsm book (columns (now (strikes .entry)) (now (expiries .entry)) (now (volatilities .entry))) (priced OptionType.Call strike expiry price) r (columns (now (strikes .exit)) (now (expiries .exit)) (now (volatilities .exit))) ⌝ }
+)
+    requires { ⌜ Within at (columnsOf (now strikes) (now expiries) (now volatilities)) ⌝ }
+    ensures { λ _. ⌜ columnsOf (now (strikes .exit)) (now (expiries .exit)) (now (volatilities .exit))
+        ≡ filed at o v (columnsOf (now (strikes .entry)) (now (expiries .entry)) (now (volatilities .entry))) ⌝ }
 {
-    offer_price(
-        book,
-        OptionType::Call,
-        strike,
-        expiry,
-        price,
-        strikes,
-        expiries,
-        volatilities,
-    )
+    strikes[at] = o.strike;
+    expiries[at] = o.expiry;
+    volatilities[at] = v;
 }
 
-pub fn offer_put(
+// An offer: checks 1 to 5, 7, 8, 10, then the solver of a price. An accepted one is written at index kept.
+pub fn offer(
     book: Book,
-    strike: f64,
-    expiry: f64,
-    price: f64,
+    offer: Offer,
     strikes: &mut [f64],
     expiries: &mut [f64],
     volatilities: &mut [f64],
 ) -> Heard
-    ensures { λ r. ⌜ Offers bsm book (columns (now (strikes .entry)) (now (expiries .entry)) (now (volatilities .entry))) (priced OptionType.Put strike expiry price) r (columns (now (strikes .exit)) (now (expiries .exit)) (now (volatilities .exit))) ⌝ }
+    ensures { λ r. ⌜ Offers bsm book
+        (columnsOf (now (strikes .entry)) (now (expiries .entry)) (now (volatilities .entry)))
+        offer r
+        (columnsOf (now (strikes .exit)) (now (expiries .exit)) (now (volatilities .exit))) ⌝ }
 {
-    offer_price(
-        book,
-        OptionType::Put,
-        strike,
-        expiry,
-        price,
+    let short = is_short(strikes.len(), expiries.len(), volatilities.len());
+    let heard = decide(book, short, offer);
+    let answer = heard.answer;
+    let Implied::Found { solution } = answer else {
+        return heard;
+    };
+    let at = book.kept as usize;
+    file(
+        at,
+        offer,
+        solution.volatility,
         strikes,
         expiries,
         volatilities,
-    )
+    );
+    heard
 }
 
 // ---- the build
@@ -399,7 +332,11 @@ pub fn build(
     grid: &mut [f64],
     counts: &mut [u64],
 ) -> Built
-    ensures { λ r. ⌜ BuildsBook book (columns (now (strikes .entry)) (now (expiries .entry)) (now (volatilities .entry))) (buffers (now («strike_axis» .entry)) (now («expiry_axis» .entry)) (now (grid .entry)) (now (counts .entry))) r (buffers (now («strike_axis» .exit)) (now («expiry_axis» .exit)) (now (grid .exit)) (now (counts .exit))) ⌝ }
+    ensures { λ r. ⌜ BuildsBook book
+        (columnsOf (now (strikes .entry)) (now (expiries .entry)) (now (volatilities .entry)))
+        (buffersOf (now («strike_axis» .entry)) (now («expiry_axis» .entry)) (now (grid .entry)) (now (counts .entry)))
+        r
+        (buffersOf (now («strike_axis» .exit)) (now («expiry_axis» .exit)) (now (grid .exit)) (now (counts .exit))) ⌝ }
 {
     if is_short(strikes.len(), expiries.len(), volatilities.len()) {
         return Built::Refused { number: 1 };

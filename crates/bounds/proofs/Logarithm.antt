@@ -11,7 +11,7 @@ use lib.Ieee.{Float, nan, inf, fin, binary64, up, down, fits, ofInt, size}
 use lib.Ieee.Digits.{size-le}
 use lib.Ieee.Positive.{positive}
 use Rattle.floats.specs.Operators.{decimal, _⊕_, _⊖_, _⊗_, _≺_, if_then_else_}
-use Rattle.floats.specs.Wholes.{units}
+use Rattle.floats.specs.Wholes.{unitsOf}
 use Rattle.floats.proofs.Tests.{by}
 use Rattle.floats.proofs.Minimum.{negative-round}
 use Rattle.floats.proofs.Whole.{units-exact, significand-lt, exponent-fine, pow-le-back}
@@ -86,13 +86,13 @@ from-bound m e b c h =
     (λ t. at-bound m e b c (omega arith))
 
 -- ---- ln
-units-bound : (s : Bool) (m : ℕ) (e : ℤ) → T (fits binary64 (fin s m e)) → units (fin s m e) < 2 * 2 ^ 1074 → Bounded 1075 (fin s m e)
-units-bound s m e f h = go (units (fin s m e)) (m * up e * 2 ^ 1074) (down e) (2 * 2 ^ 1074) (units-exact s m e f) h
+units-bound : (s : Bool) (m : ℕ) (e : ℤ) → T (fits binary64 (fin s m e)) → unitsOf (fin s m e) < 2 * 2 ^ 1074 → Bounded 1075 (fin s m e)
+units-bound s m e f h = go (unitsOf (fin s m e)) (m * up e * 2 ^ 1074) (down e) (2 * 2 ^ 1074) (units-exact s m e f) h
   where
     go : (u x d w : ℕ) → u * d ≡ x → u < w → x ≤ w * d
     go u x d w e h = let k = mul-le-mul-right d (le-of-lt h) in omega arith
 
-mantissa-bound : (x : Float) → T (fits binary64 x) → T (positive x) → units x < 2 * 2 ^ 1074 → Bounded 1075 x
+mantissa-bound : (x : Float) → T (fits binary64 x) → T (positive x) → unitsOf x < 2 * 2 ^ 1074 → Bounded 1075 x
 mantissa-bound nan f p h = absurd p
 mantissa-bound (inf s) f p h = absurd p
 mantissa-bound (fin s m e) f p h = units-bound s m e f h

@@ -10,7 +10,7 @@ use lib.Pow.{pow-pos}
 use lib.Ieee.{Float, nan, inf, fin, binary64, up, down, neg, lt, le, eq, round}
 use lib.Ieee.Fits.{div-fits}
 use lib.Ieee.Positive.{positive}
-use Rattle.floats.specs.Operators.{decimal, _⊕_, _⊗_, _⊘_, _≼_}
+use Rattle.floats.specs.Operators.{decimal, _⊕_, _⊖_, _⊗_, _⊘_, _≼_}
 use Rattle.floats.proofs.Tests.{or-le, or-ge}
 use Rattle.floats.proofs.Bounds.{Bounded, AtLeast, power-short, bounded-more, round-bound, bounded-mul, bounded-add, bounded-sub, bounded-neg}
 use Rattle.floats.proofs.Bounds.{bounded-div, least-round, least-mul, least-div, negative-div, positive-of, positive-clear, upto-of-most, most-le, least-le}
@@ -19,9 +19,10 @@ use Rattle.limits.proofs.Ranges.{at-least, at-most, spot-positive, expiry-posit
 use Rattle.normal.specs.Root.{sqrt}
 use Rattle.normal.specs.Ln.{ln}
 use Rattle.normal.specs.Normal.{cdf}
-use Rattle.greeks.specs.Model.{discount, d1, d2, price}
+use Rattle.greeks.specs.Model.{ofKind, discount, spread, d1, d2, price}
 use Rattle.greeks.specs.declared.OptionType.{OptionType}
 use Rattle.greeks.specs.declared.OptionType.the-variants.{Call, Put}
+use Rattle.greeks.specs.declared.OptionParams.{OptionParams}
 use Rattle.bounds.proofs.Exponential.{exp-bound, half-bound}
 use Rattle.bounds.proofs.Logarithm.{ln-bound}
 use Rattle.bounds.proofs.Tail.{cdf-bound}
@@ -119,80 +120,93 @@ quotient-positive s k hs hk =
 moneyness-bound : (s k : Float) → Ranged 1104 s → Ranged 1104 k → Bounded 1129 (ln (s ⊘ k))
 moneyness-bound s k hs hk = ln-bound (s ⊘ k) (div-fits binary64 s k) (quotient-positive s k hs hk)
 
-module _ (spot rate strike expiry v : Float) (hs : isSpot spot ≡ true) (hk : isStrike strike ≡ true) (ht : isExpiry expiry ≡ true)
-    (hr : isRate rate ≡ true) (hv : isVolatility v ≡ true) where
-  s : Ranged 1104 spot
-  s = spot-ranged spot hs
+-- a bound of a call's value and of a put's bounds either's
+of-kind : (k : ℕ) (kind : OptionType) (call put : Float) → Bounded k call → Bounded k put → Bounded k (ofKind kind call put)
+of-kind k Call call put c p = c
+of-kind k Put call put c p = p
 
-  k : Ranged 1104 strike
-  k = spot-ranged strike hk
+module _ (p : OptionParams) (hs : isSpot (p .spot) ≡ true) (hk : isStrike (p .strike) ≡ true) (ht : isExpiry (p .«time_to_expiry») ≡ true)
+    (hr : isRate (p .«risk_free_rate») ≡ true) (hv : isVolatility (p .volatility) ≡ true) where
+  s : Ranged 1104 (p .spot)
+  s = spot-ranged (p .spot) hs
 
-  t : Ranged 1081 expiry
-  t = expiry-ranged expiry ht
+  k : Ranged 1104 (p .strike)
+  k = spot-ranged (p .strike) hk
 
-  r : Bounded 1074 rate
-  r = rate-bound rate hr
+  t : Ranged 1081 (p .«time_to_expiry»)
+  t = expiry-ranged (p .«time_to_expiry») ht
 
-  w : Ranged 1078 v
-  w = volatility-ranged v hv
+  r : Bounded 1074 (p .«risk_free_rate»)
+  r = rate-bound (p .«risk_free_rate») hr
 
-  root-bound : Bounded 1079 (sqrt expiry)
-  root-bound = sqrt-bound expiry (t .above) (t .least) (t .most)
+  w : Ranged 1078 (p .volatility)
+  w = volatility-ranged (p .volatility) hv
 
-  spread-bound : Bounded 1083 (v ⊗ sqrt expiry)
-  spread-bound = bounded-mul 1078 1079 1083 v (sqrt expiry) (lit< tt) (lit≤ tt) (w .most) root-bound
+  root-bound : Bounded 1079 (sqrt (p .«time_to_expiry»))
+  root-bound = sqrt-bound (p .«time_to_expiry») (t .above) (t .least) (t .most)
 
-  spread-least : AtLeast (2 ^ 1043) (v ⊗ sqrt expiry)
-  spread-least = least-mul 1054 1063 1043 (2 ^ 1078) (2 ^ 1079) v (sqrt expiry) (lit< tt) (lit≤ tt) (w .most) root-bound (w .least)
-      (sqrt-least expiry (t .above) (t .least) (t .most))
+  spread-bound : Bounded 1083 (spread p)
+  unfolding spread
+  spread-bound = bounded-mul 1078 1079 1083 (p .volatility) (sqrt (p .«time_to_expiry»)) (lit< tt) (lit≤ tt) (w .most) root-bound
 
-  drift-bound : Bounded 1090 ((rate ⊕ decimal 1 2 ⊗ v ⊗ v) ⊗ expiry)
+  spread-least : AtLeast (2 ^ 1043) (spread p)
+  unfolding spread
+  spread-least =
+      least-mul 1054 1063 1043 (2 ^ 1078) (2 ^ 1079) (p .volatility) (sqrt (p .«time_to_expiry»)) (lit< tt) (lit≤ tt) (w .most) root-bound (w .least)
+      (sqrt-least (p .«time_to_expiry») (t .above) (t .least) (t .most))
+
+  -- (r + 0.5 v v) t
+  abbrev square : Float
+  square = decimal 1 2 ⊗ p .volatility ⊗ p .volatility
+
+  abbrev drift : Float
+  drift = (p .«risk_free_rate» ⊕ square) ⊗ p .«time_to_expiry»
+
+  drift-bound : Bounded 1090 drift
   drift-bound =
-      bounded-mul 1083 1081 1090 (rate ⊕ decimal 1 2 ⊗ v ⊗ v) expiry (lit< tt) (lit≤ tt)
-      (bounded-add 1074 1082 1082 rate (decimal 1 2 ⊗ v ⊗ v) (lit< tt) (lit≤ tt) (lit≤ tt) r
-      (bounded-mul 1078 1078 1082 (decimal 1 2 ⊗ v) v (lit< tt) (lit≤ tt)
-      (bounded-mul 1074 1078 1078 (decimal 1 2) v (lit< tt) (lit≤ tt) half-bound (w .most)) (w .most)))
+      bounded-mul 1083 1081 1090 (p .«risk_free_rate» ⊕ square) (p .«time_to_expiry») (lit< tt) (lit≤ tt)
+      (bounded-add 1074 1082 1082 (p .«risk_free_rate») square (lit< tt) (lit≤ tt) (lit≤ tt) r
+      (bounded-mul 1078 1078 1082 (decimal 1 2 ⊗ p .volatility) (p .volatility) (lit< tt) (lit≤ tt)
+      (bounded-mul 1074 1078 1078 (decimal 1 2) (p .volatility) (lit< tt) (lit≤ tt) half-bound (w .most)) (w .most)))
       (t .most)
 
-  d1-bound : Bounded 1161 (d1 spot rate strike expiry v)
+  d1-bound : Bounded 1161 (d1 p)
   unfolding d1
   d1-bound =
-      bounded-div 1130 1043 1161 (ln (spot ⊘ strike) ⊕ (rate ⊕ decimal 1 2 ⊗ v ⊗ v) ⊗ expiry) (v ⊗ sqrt expiry) (lit< tt) (lit≤ tt)
-      (bounded-add 1129 1090 1129 (ln (spot ⊘ strike)) ((rate ⊕ decimal 1 2 ⊗ v ⊗ v) ⊗ expiry) (lit< tt) (lit≤ tt) (lit≤ tt)
-      (moneyness-bound spot strike s k) drift-bound)
+      bounded-div 1130 1043 1161 (ln (p .spot ⊘ p .strike) ⊕ drift) (spread p) (lit< tt) (lit≤ tt)
+      (bounded-add 1129 1090 1129 (ln (p .spot ⊘ p .strike)) drift (lit< tt) (lit≤ tt) (lit≤ tt) (moneyness-bound (p .spot) (p .strike) s k) drift-bound)
       spread-least
 
-  d2-bound : Bounded 1162 (d2 spot rate strike expiry v)
+  d2-bound : Bounded 1162 (d2 p)
   unfolding d2
-  d2-bound =
-      bounded-sub 1161 1083 1161 (d1 spot rate strike expiry v) (v ⊗ sqrt expiry) (lit< tt) (lit≤ tt) (lit≤ tt) d1-bound spread-bound
+  d2-bound = bounded-sub 1161 1083 1161 (d1 p) (spread p) (lit< tt) (lit≤ tt) (lit≤ tt) d1-bound spread-bound
 
-  discount-bound : Bounded 1513 (discount rate expiry)
+  discount-bound : Bounded 1513 (discount p)
   unfolding discount
   discount-bound =
-      let b = bounded-mul 1074 1081 1081 (neg rate) expiry (lit< tt) (lit≤ tt) (bounded-neg 1074 rate r) (t .most) in
-      exp-bound 128 1081 (neg rate ⊗ expiry) (lit≤ tt) (lit≤ tt) (upto-of-most (128 * 2 ^ 1074) (neg rate ⊗ expiry) b) b
+      let x = neg (p .«risk_free_rate») ⊗ p .«time_to_expiry» in
+      let b = bounded-mul 1074 1081 1081 (neg (p .«risk_free_rate»)) (p .«time_to_expiry») (lit< tt) (lit≤ tt)
+      (bounded-neg 1074 (p .«risk_free_rate») r) (t .most) in
+      exp-bound 128 1081 x (lit≤ tt) (lit≤ tt) (upto-of-most (128 * 2 ^ 1074) x b) b
 
   -- the two parts of a price, whatever arguments of at most 2^88 the distribution is at
-  spot-part : (x : Float) → Bounded 1162 x → Bounded 1412 (spot ⊗ cdf x)
-  spot-part x b = bounded-mul 1104 1382 1412 spot (cdf x) (lit< tt) (lit≤ tt) (s .most) (cdf-bound x (bounded-more 1162 1200 x (lit≤ tt) b))
+  spot-part : (x : Float) → Bounded 1162 x → Bounded 1412 (p .spot ⊗ cdf x)
+  spot-part x b = bounded-mul 1104 1382 1412 (p .spot) (cdf x) (lit< tt) (lit≤ tt) (s .most) (cdf-bound x (bounded-more 1162 1200 x (lit≤ tt) b))
 
-  strike-part : (x : Float) → Bounded 1162 x → Bounded 1851 (strike ⊗ discount rate expiry ⊗ cdf x)
+  strike-part : (x : Float) → Bounded 1162 x → Bounded 1851 (p .strike ⊗ discount p ⊗ cdf x)
   strike-part x b =
-      bounded-mul 1543 1382 1851 (strike ⊗ discount rate expiry) (cdf x) (lit< tt) (lit≤ tt)
-      (bounded-mul 1104 1513 1543 strike (discount rate expiry) (lit< tt) (lit≤ tt) (k .most) discount-bound)
+      bounded-mul 1543 1382 1851 (p .strike ⊗ discount p) (cdf x) (lit< tt) (lit≤ tt)
+      (bounded-mul 1104 1513 1543 (p .strike) (discount p) (lit< tt) (lit≤ tt) (k .most) discount-bound)
       (cdf-bound x (bounded-more 1162 1200 x (lit≤ tt) b))
 
-  pub price-bound : (kind : OptionType) → Bounded 1852 (price kind spot rate strike expiry v)
+  pub price-bound : Bounded 1852 (price p)
   unfolding price
-  price-bound Call =
-      bounded-sub 1412 1851 1851 (spot ⊗ cdf (d1 spot rate strike expiry v)) (strike ⊗ discount rate expiry ⊗ cdf (d2 spot rate strike expiry v)) (lit< tt)
-      (lit≤ tt) (lit≤ tt)
-      (spot-part (d1 spot rate strike expiry v) (bounded-more 1161 1162 (d1 spot rate strike expiry v) (lit≤ tt) d1-bound))
-      (strike-part (d2 spot rate strike expiry v) d2-bound)
-  price-bound Put =
-      bounded-sub 1851 1412 1851 (strike ⊗ discount rate expiry ⊗ cdf (neg (d2 spot rate strike expiry v))) (spot ⊗ cdf (neg (d1 spot rate strike expiry v)))
-      (lit< tt) (lit≤ tt) (lit≤ tt)
-      (strike-part (neg (d2 spot rate strike expiry v)) (bounded-neg 1162 (d2 spot rate strike expiry v) d2-bound))
-      (spot-part (neg (d1 spot rate strike expiry v))
-      (bounded-neg 1162 (d1 spot rate strike expiry v) (bounded-more 1161 1162 (d1 spot rate strike expiry v) (lit≤ tt) d1-bound)))
+  price-bound =
+      let b = bounded-more 1161 1162 (d1 p) (lit≤ tt) d1-bound in
+      of-kind 1852 (p .«option_type») (p .spot ⊗ cdf (d1 p) ⊖ p .strike ⊗ discount p ⊗ cdf (d2 p))
+      (p .strike ⊗ discount p ⊗ cdf (neg (d2 p)) ⊖ p .spot ⊗ cdf (neg (d1 p)))
+      (bounded-sub 1412 1851 1851 (p .spot ⊗ cdf (d1 p)) (p .strike ⊗ discount p ⊗ cdf (d2 p)) (lit< tt) (lit≤ tt) (lit≤ tt)
+      (spot-part (d1 p) b) (strike-part (d2 p) d2-bound))
+      (bounded-sub 1851 1412 1851 (p .strike ⊗ discount p ⊗ cdf (neg (d2 p))) (p .spot ⊗ cdf (neg (d1 p))) (lit< tt) (lit≤ tt) (lit≤ tt)
+      (strike-part (neg (d2 p)) (bounded-neg 1162 (d2 p) d2-bound))
+      (spot-part (neg (d1 p)) (bounded-neg 1162 (d1 p) b)))

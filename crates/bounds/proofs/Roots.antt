@@ -12,7 +12,7 @@ use lib.Ieee.Digits.{size-lt, size-le}
 use lib.Ieee.Exact.{HasValue, odd-sign}
 use lib.Ieee.Fits.{down-pos}
 use lib.Ieee.Positive.{positive}
-use Rattle.floats.specs.Wholes.{units}
+use Rattle.floats.specs.Wholes.{unitsOf}
 use Rattle.floats.proofs.Short.{AtMost}
 use Rattle.floats.proofs.Bounds.{Bounded, AtLeast}
 use Rattle.normal.specs.Root.{wholeRoot, halfRoot, rootOfUnits, sqrt}
@@ -30,12 +30,12 @@ value-least nan u w h l = absurd h
 value-least (inf s) u w h l = absurd h
 value-least (fin s m e) u w h l = le-trans (mul-le-mul-right (down e) l) (le-of-eq (sym (h .1)))
 
-units-least : (w : ℕ) (x : Float) → T (positive x) → AtLeast w x → w ≤ units x
+units-least : (w : ℕ) (x : Float) → T (positive x) → AtLeast w x → w ≤ unitsOf x
 units-least w nan p h = absurd p
 units-least w (inf s) p h = absurd p
 units-least w (fin s m e) p h = le-div-iff-mul-le (down-pos e) .1 h
 
-units-most : (w : ℕ) (x : Float) → T (positive x) → AtMost w x → units x ≤ w
+units-most : (w : ℕ) (x : Float) → T (positive x) → AtMost w x → unitsOf x ≤ w
 units-most w nan p h = absurd p
 units-most w (inf s) p h = absurd p
 units-most w (fin s m e) p h = div-le-of-le-mul (down e) {m = m * up e * 2 ^ 1074} {n = w} (le-trans h (le-of-eq (mul-comm w (down e))))
@@ -116,7 +116,7 @@ module _ (n : ℕ) (lo : 2 ^ 1054 ≤ n) (hi : n ≤ 2 ^ 1081) where
 
 module _ (t : Float) (p : T (positive t)) (least : AtLeast (2 ^ 1054) t) (most : Bounded 1081 t) where
   pub sqrt-bound : Bounded 1079 (sqrt t)
-  sqrt-bound = subst (Bounded 1079) (at-positive t p) (units-bound (units t) (units-least (2 ^ 1054) t p least) (units-most (2 ^ 1081) t p most))
+  sqrt-bound = subst (Bounded 1079) (at-positive t p) (units-bound (unitsOf t) (units-least (2 ^ 1054) t p least) (units-most (2 ^ 1081) t p most))
 
   pub sqrt-least : AtLeast (2 ^ 1063) (sqrt t)
-  sqrt-least = subst (AtLeast (2 ^ 1063)) (at-positive t p) (units-lowest (units t) (units-least (2 ^ 1054) t p least) (units-most (2 ^ 1081) t p most))
+  sqrt-least = subst (AtLeast (2 ^ 1063)) (at-positive t p) (units-lowest (unitsOf t) (units-least (2 ^ 1054) t p least) (units-most (2 ^ 1081) t p most))

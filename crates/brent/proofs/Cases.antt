@@ -17,7 +17,7 @@ use Rattle.brent.specs.declared.Points.{Points}
 use Rattle.brent.specs.declared.Solver.{Solver}
 use Rattle.brent.specs.Brent.{reset, swap, converged, advance}
 use Rattle.brent.specs.Outcome.{Reply, ended, zeros}
-use Rattle.brent.specs.Feed.{refuse, ask, find, placed, inRange, isUnusable, isUnbracketed, feedNumber, feed}
+use Rattle.brent.specs.Feed.{mostRounds, mostEvaluations, refuse, ask, find, placed, inRange, isUnusable, isUnbracketed, feedNumber, feed}
 use Rattle.brent.specs.Claim.{last, best, opposing, Unusable, after-its-end, many-rounds, many-evaluations, out-of-range}
 use Rattle.brent.proofs.Range.{In, in-of, in-at}
 
@@ -33,11 +33,11 @@ ended-turned : (s : Solver) → eq (s .market) (decimal 0 1) ≡ true → isUnus
 unfolding isUnusable
 ended-turned s h = simp h
 
-rounds-turned : (s : Solver) → ltb 50 (s .rounds) ≡ true → isUnusable s ≡ true
+rounds-turned : (s : Solver) → ltb mostRounds (s .rounds) ≡ true → isUnusable s ≡ true
 unfolding isUnusable
 rounds-turned s h = simp (h, or-true)
 
-evaluations-turned : (s : Solver) → ltb 52 (s .evaluations) ≡ true → isUnusable s ≡ true
+evaluations-turned : (s : Solver) → ltb mostEvaluations (s .evaluations) ≡ true → isUnusable s ≡ true
 unfolding isUnusable
 evaluations-turned s h = simp (h, or-true)
 

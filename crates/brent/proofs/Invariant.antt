@@ -4,31 +4,30 @@ use mathlib.Core.Path.{_≡_, refl, sym, ap, _∙_, subst}
 use mathlib.Core.Logic.{_⊎_, inl, inr}
 use mathlib.Core.List.{List, [], _∷_, _++_, append-nil, append-assoc, List·Memᴰ, List·Memᴰ·cases-cons, List·Memᴰ·not-nil, List·Memᴰ·head, Memᴰ·append-left}
 use mathlib.Core.List.{Memᴰ·append-right}
-use Prim.Native.Nat.{ℕ, zero, suc, _+_, _≤_, _<_, zero-le}
+use Prim.Native.Nat.{ℕ, _+_, _≤_, _<_, zero-le}
 use native.Mathlib.Omega.{arith}
 use mathlib.Core.Bool.{Bool, true, false, not, _&&_, true≢false}
 use lib.Dec.{T, ltb, leb, eqb, lit≤, ltb→lt}
 use lib.ListN.{length, length-append}
 use borrow.Author.Tests.{leb-true, leb-false, eqb-true, ne-eqb, le-ltb}
-use lib.Ieee.{Float, nan, inf, fin, binary64, eq, le, round, mul, fits}
+use lib.Ieee.{Float, binary64, eq, le, round, mul, fits}
 use lib.Ieee.Fits.{add-fits, round-fits}
-use lib.Ieee.Bits.{is-true}
-use lib.Ieee.Positive.{positive, positive-finite}
+use lib.Ieee.Positive.{positive}
 use Rattle.floats.specs.Operators.{_⊖_, _⊗_, _≺_, _≼_, if_then_else_}
 use Rattle.floats.specs.Values.{magnitude, finite}
 use Rattle.floats.proofs.Tests.{by, clash, and-left, and-right, or-left, or-right-false}
-use Rattle.floats.proofs.Signs.{O, Zero, is-zero, positive-of-lt}
+use Rattle.floats.proofs.Signs.{O, is-zero, positive-not-zero, positive-of-lt}
 use Rattle.floats.proofs.Order.{lt-turns}
 use Rattle.floats.proofs.Rounding.{mul-commutes}
 use Rattle.floats.proofs.Products.{Opposed, opposed-turns, opposed-like, opposed-of-product, alike-of-product}
-use Rattle.limits.proofs.Ranges.{volatility-positive}
+use Rattle.limits.proofs.Ranges.{volatility-finite}
 use Rattle.limits.specs.Ranges.{within, isPrice, isVolatility, lowestVolatility, highestVolatility}
 use Rattle.limits.specs.Outcome.{done, refused}
 use Rattle.brent.specs.declared.Points.{Points}
 use Rattle.brent.specs.declared.Solver.{Solver}
 use Rattle.brent.specs.Brent.{TOL, reset, swap, tolerance, middle, converged, advance}
 use Rattle.brent.specs.Outcome.{Reply, asking, ended, zeros}
-use Rattle.brent.specs.Feed.{over, fresh, refuse, ask, find, start, placed, isUnusable, isUnbracketed, feed}
+use Rattle.brent.specs.Feed.{over, fresh, refuse, ask, solution, find, start, placed, isUnusable, isUnbracketed, feed}
 use Rattle.brent.specs.Run.{Tried, feedAll, run}
 use Rattle.brent.specs.Claim.{opposed, Obtained, Near, small, bracket, Success, Given, five, eleven, twelve, thirteen, NotFinite}
 use Rattle.brent.proofs.Near.{near}
@@ -67,9 +66,9 @@ pub record Ready (market : Float) (h : List Tried) (p : Points) : Type 0 where
   pub kc : Known market h (p .c) (p .fc)
   pub sides : magnitude (p .fb) ≺ TOL ≡ false → Opposed (p .fb) (p .fc)
 
-tolerance-positive : T (positive TOL)
+TOL-positive : T (positive TOL)
 unfolding round
-tolerance-positive = tt
+TOL-positive = tt
 
 square-positive : T (positive (TOL ⊗ TOL))
 unfolding round mul
@@ -88,7 +87,7 @@ module _ (market : Float) (h : List Tried) where
   ordered : (x y : Float) → finite x ≡ true → finite y ≡ true → Opposed x y ⊎ (O ≺ x ⊗ y ≡ false) → magnitude y ≺ magnitude x ≡ false
       → magnitude x ≺ TOL ≡ false → Opposed x y
   ordered x y f g (inl o) k t = o
-  ordered x y f g (inr z) k t = opposed-of-product TOL x y tolerance-positive square-positive f g z t k
+  ordered x y f g (inr z) k t = opposed-of-product TOL x y TOL-positive square-positive f g z t k
 
   turned : (x y : Float) → Opposed x y ⊎ (O ≺ x ⊗ y ≡ false) → Opposed y x ⊎ (O ≺ y ⊗ x ≡ false)
   turned x y (inl o) = inl (opposed-turns x y o)
@@ -139,13 +138,6 @@ Good market h (ended (refused k x) s) = (s ≡ over) × (x ≡ zeros (length h))
     (k ≡ 11 → NotFinite market h)
 
 -- ---- a market price is not 0.0
-positive-not-zero : (x : Float) → T (positive x) → Zero x → ⊥
-positive-not-zero nan p z = p
-positive-not-zero (inf s) p z = p
-positive-not-zero (fin true m e) p z = p
-positive-not-zero (fin false zero e) p z = p
-positive-not-zero (fin false (suc m) e) p z = z
-
 price-not-zero : (x : Float) → isPrice x ≡ true → eq x O ≡ false
 unfolding isPrice
 price-not-zero x h = go (eq x O) refl
@@ -172,20 +164,17 @@ opposed-test x y o = go (O ≺ x) (O ≺ y) (x ≺ O) (y ≺ O) (o .not-above) (
     go false b true false p q = refl
     go false b false d p q = refl
 
-volatility-finite : (v : Float) → isVolatility v ≡ true → finite v ≡ true
-volatility-finite v h = is-true (finite v) (positive-finite v (volatility-positive v h))
-
 module _ (market : Float) (h : List Tried) where
   refused-good : (k n : ℕ) → n ≡ length h → Given k (length h) → (k ≡ 5 → isPrice market ≡ false) → (k ≡ 11 → NotFinite market h) → Good market h (refuse k n)
   unfolding refuse
   refused-good k n e g f i = (refl, ap zeros e, g, f, i)
 
   near-good : (p : Points) (n : ℕ) → Ready market h p → In p → converged p ≡ true
-      → Near (record { volatility = p .b; error = p .fb; c = p .c; c-error = p .fc; evaluations = n })
+      → Near (solution p n)
   unfolding converged
   near-good p n r z c = go (magnitude (p .fb) ≺ TOL) refl
     where
-      go : (t : Bool) → magnitude (p .fb) ≺ TOL ≡ t → Near (record { volatility = p .b; error = p .fb; c = p .c; c-error = p .fc; evaluations = n })
+      go : (t : Bool) → magnitude (p .fb) ≺ TOL ≡ t → Near (solution p n)
       go true e = small e
       go false e =
           bracket (opposed-test (p .fb) (p .fc) (r .sides e))

@@ -3,7 +3,6 @@
 use mathlib.Core.Path.{_≡_, refl, sym, ap, _∙_, subst}
 use Prim.Native.Nat.{ℕ, _*_, _^_, _≤_, _<_}
 use native.Mathlib.Nat.{le-of-lt, mul-pos, lt-of-not-le, le-of-suc-le-suc}
-use native.Mathlib.Omega.{arith}
 use mathlib.Core.Bool.{Bool, true, false, not}
 use lib.IntN.{ℤ, negsuc}
 use lib.Dec.{T, T-not, lit<}
@@ -13,9 +12,9 @@ use lib.Ieee.Order.{round-mono}
 use lib.Ieee.Positive.{positive, above, le-trans-positive, above-of-le, between, mul-mono}
 use Rattle.floats.specs.Operators.{decimal, _⊕_, _⊖_, _⊗_, _≼_}
 use Rattle.floats.specs.Values.{magnitude, finite}
-use Rattle.floats.specs.Wholes.{units, distance}
+use Rattle.floats.specs.Wholes.{unitsOf, distance}
 use Rattle.floats.proofs.Signs.{positive-magnitude}
-use Rattle.floats.proofs.Rounding.{apart, magnitude-sub, magnitude-mul}
+use Rattle.floats.proofs.Rounding.{apart, apart-turns, magnitude-sub, magnitude-mul}
 use Rattle.floats.proofs.Order.{le-self, add-mono, not-infinite}
 use Rattle.floats.proofs.Whole.{units-exact, distance-is, fewer}
 use Rattle.floats.proofs.Tests.{holds}
@@ -31,8 +30,8 @@ top = 2384795073849171
 abbrev bottom : ℕ
 bottom = 2361183241434822606848
 
-unfoldable reach : Float
-reach = decimal top bottom
+unfoldable span : Float
+span = decimal top bottom
 
 abbrev pub half : Float
 half = decimal 1 2
@@ -40,8 +39,8 @@ half = decimal 1 2
 abbrev pub slope : Float
 slope = decimal 2 1 ⊗ EPSILON
 
-abbrev pub floor : Float
-floor = half ⊗ TOL
+abbrev pub base : Float
+base = half ⊗ TOL
 
 abbrev pub low : Float
 low = lowestVolatility
@@ -49,9 +48,9 @@ low = lowestVolatility
 abbrev pub high : Float
 high = highestVolatility
 
-reach-positive : T (positive reach)
-unfolding reach round
-reach-positive = tt
+span-positive : T (positive span)
+unfolding span round
+span-positive = tt
 
 half-positive : T (positive half)
 unfolding round
@@ -69,9 +68,9 @@ slope-positive : T (positive slope)
 unfolding round mul
 slope-positive = tt
 
-floor-positive : T (positive floor)
+base-positive : T (positive base)
 unfolding round mul
-floor-positive = tt
+base-positive = tt
 
 slope-low : T (positive (slope ⊗ low))
 unfolding round mul
@@ -81,26 +80,26 @@ slope-high : T (positive (slope ⊗ high))
 unfolding round mul
 slope-high = tt
 
-pub least-positive : T (positive (slope ⊗ low ⊕ floor))
+pub least-positive : T (positive (slope ⊗ low ⊕ base))
 unfolding round mul add
 least-positive = tt
 
-pub most-positive : T (positive (slope ⊗ high ⊕ floor))
+pub most-positive : T (positive (slope ⊗ high ⊕ base))
 unfolding round mul add
 most-positive = tt
 
-half-reach : T (positive (half ⊗ reach))
-unfolding reach round mul
-half-reach = tt
+half-span : T (positive (half ⊗ span))
+unfolding span round mul
+half-span = tt
 
 -- half of 0.00000101 is above the tolerance at 10
-out-of-reach : T (not (half ⊗ reach ≼ slope ⊗ high ⊕ floor))
-unfolding reach round mul add le
-out-of-reach = tt
+past-span : T (not (half ⊗ span ≼ slope ⊗ high ⊕ base))
+unfolding span round mul add le
+past-span = tt
 
-pub tolerance-at : (b : Float) → T (positive b) → tolerance b ≡ slope ⊗ b ⊕ floor
+pub tolerance-at : (b : Float) → T (positive b) → tolerance b ≡ slope ⊗ b ⊕ base
 unfolding tolerance
-tolerance-at b p = ap (λ (z : Float). slope ⊗ z ⊕ floor) (positive-magnitude b p)
+tolerance-at b p = ap (λ (z : Float). slope ⊗ z ⊕ base) (positive-magnitude b p)
 
 -- ---- a point b in range
 module _ (b : Float) (p : T (positive b)) (l : T (low ≼ b)) (h : T (b ≼ high)) where
@@ -113,39 +112,39 @@ module _ (b : Float) (p : T (positive b)) (l : T (low ≼ b)) (h : T (b ≼ high
   slope-b : T (positive (slope ⊗ b))
   slope-b = between (slope ⊗ low) (slope ⊗ b) (slope ⊗ high) slope-low slope-high above-low below-high
 
-  pub tolerance-most : T (slope ⊗ b ⊕ floor ≼ slope ⊗ high ⊕ floor)
-  tolerance-most = add-mono binary64 (slope ⊗ b) (slope ⊗ high) floor floor slope-b slope-high floor-positive floor-positive below-high
-      (le-self floor floor-positive)
+  pub tolerance-most : T (slope ⊗ b ⊕ base ≼ slope ⊗ high ⊕ base)
+  tolerance-most = add-mono binary64 (slope ⊗ b) (slope ⊗ high) base base slope-b slope-high base-positive base-positive below-high
+      (le-self base base-positive)
 
-  pub tolerance-least : T (slope ⊗ low ⊕ floor ≼ slope ⊗ b ⊕ floor)
-  tolerance-least = add-mono binary64 (slope ⊗ low) (slope ⊗ b) floor floor slope-low slope-b floor-positive floor-positive above-low
-      (le-self floor floor-positive)
+  pub tolerance-least : T (slope ⊗ low ⊕ base ≼ slope ⊗ b ⊕ base)
+  tolerance-least = add-mono binary64 (slope ⊗ low) (slope ⊗ b) base base slope-low slope-b base-positive base-positive above-low
+      (le-self base base-positive)
 
-  pub tolerance-positive : T (positive (slope ⊗ b ⊕ floor))
-  tolerance-positive = between (slope ⊗ low ⊕ floor) (slope ⊗ b ⊕ floor) (slope ⊗ high ⊕ floor) least-positive most-positive tolerance-least tolerance-most
+  pub tolerance-positive : T (positive (slope ⊗ b ⊕ base))
+  tolerance-positive = between (slope ⊗ low ⊕ base) (slope ⊗ b ⊕ base) (slope ⊗ high ⊕ base) least-positive most-positive tolerance-least tolerance-most
 
   -- no difference above 0.00000101 comes within the tolerance
-  far : (g z : ℕ) → 0 < z → top * z ≤ g * bottom → T (half ⊗ round binary64 false g z ≼ slope ⊗ b ⊕ floor) → ⊥
+  far : (g z : ℕ) → 0 < z → top * z ≤ g * bottom → T (half ⊗ round binary64 false g z ≼ slope ⊗ b ⊕ base) → ⊥
   far g z Z w t =
-      let up : T (reach ≼ round binary64 false g z) = unfold reach in round-mono binary64 top bottom g z (lit< tt) Z w in
-      go (round binary64 false g z) (above-of-le reach (round binary64 false g z) reach-positive up) up t
+      let up : T (span ≼ round binary64 false g z) = unfold span in round-mono binary64 top bottom g z (lit< tt) Z w in
+      go (round binary64 false g z) (above-of-le span (round binary64 false g z) span-positive up) up t
     where
       infinite : half ⊗ inf false ≡ inf false
       infinite = unfold mul in unfold round in refl
 
-      go : (r : Float) → T (above r) → T (reach ≼ r) → T (half ⊗ r ≼ slope ⊗ b ⊕ floor) → ⊥
+      go : (r : Float) → T (above r) → T (span ≼ r) → T (half ⊗ r ≼ slope ⊗ b ⊕ base) → ⊥
       go nan a u t = a
       go (inf true) a u t = a
-      go (inf false) a u t = not-infinite (slope ⊗ b ⊕ floor) tolerance-positive (subst (λ (x : Float). T (x ≼ slope ⊗ b ⊕ floor)) infinite t)
+      go (inf false) a u t = not-infinite (slope ⊗ b ⊕ base) tolerance-positive (subst (λ (x : Float). T (x ≼ slope ⊗ b ⊕ base)) infinite t)
       go (fin true m e) a u t = a
       go (fin false m e) a u t =
           let r = fin false m e in
-          let v : T (half ⊗ reach ≼ half ⊗ r) = mul-mono binary64 half half reach r half-positive half-positive reach-positive a
+          let v : T (half ⊗ span ≼ half ⊗ r) = mul-mono binary64 half half span r half-positive half-positive span-positive a
           (le-self half half-positive) u in
-          let q = between (half ⊗ reach) (half ⊗ r) (slope ⊗ b ⊕ floor) half-reach tolerance-positive v t in
-          T-not (half ⊗ reach ≼ slope ⊗ high ⊕ floor) out-of-reach
-          (le-trans-positive (half ⊗ reach) (slope ⊗ b ⊕ floor) (slope ⊗ high ⊕ floor) half-reach tolerance-positive most-positive
-          (le-trans-positive (half ⊗ reach) (half ⊗ r) (slope ⊗ b ⊕ floor) half-reach q tolerance-positive v t) tolerance-most)
+          let q = between (half ⊗ span) (half ⊗ r) (slope ⊗ b ⊕ base) half-span tolerance-positive v t in
+          T-not (half ⊗ span ≼ slope ⊗ high ⊕ base) past-span
+          (le-trans-positive (half ⊗ span) (slope ⊗ b ⊕ base) (slope ⊗ high ⊕ base) half-span tolerance-positive most-positive
+          (le-trans-positive (half ⊗ span) (half ⊗ r) (slope ⊗ b ⊕ base) half-span q tolerance-positive v t) tolerance-most)
 
 -- ---- |xm| is half of one rounding of the exact distance
 pub is-half : fin false 1 (negsuc 0) ≡ half
@@ -159,23 +158,17 @@ middle-is t n d s m e = halves (fin s m e ⊖ fin t n d) ∙ ap (λ (z : Float).
     halves : (x : Float) → magnitude (half ⊗ x) ≡ half ⊗ magnitude x
     halves x = subst (λ (z : Float). magnitude (z ⊗ x) ≡ z ⊗ magnitude x) is-half (magnitude-mul binary64 1 (negsuc 0) x)
 
-apart-turns : (s : Bool) (a : ℕ) (t : Bool) (b : ℕ) → apart s a t b ≡ apart t b s a
-apart-turns true a true b = omega arith
-apart-turns true a false b = omega arith
-apart-turns false a true b = omega arith
-apart-turns false a false b = omega arith
-
-reach-units : units (decimal 101 100000000) * bottom ≡ top * 2 ^ 1074
+span-units : unitsOf (decimal 101 100000000) * bottom ≡ top * 2 ^ 1074
 unfolding round
-reach-units = refl
+span-units = refl
 
 pub near : (b c : Float) → T (fits binary64 b) → T (fits binary64 c) → isVolatility b ≡ true → finite c ≡ true → magnitude (middle b c) ≼ tolerance b ≡ true
-    → distance b c ≤ units (decimal 101 100000000)
+    → distance b c ≤ unitsOf (decimal 101 100000000)
 near b c f g r w k = go b c f g (volatility-positive b r) (at-least low high b r) (at-most low high b r) (holds (finite c) w)
     (holds (magnitude (middle b c) ≼ tolerance b) k)
   where
     go : (b c : Float) → T (fits binary64 b) → T (fits binary64 c) → T (positive b) → T (low ≼ b) → T (b ≼ high) → T (finite c)
-        → T (magnitude (middle b c) ≼ tolerance b) → distance b c ≤ units (decimal 101 100000000)
+        → T (magnitude (middle b c) ≼ tolerance b) → distance b c ≤ unitsOf (decimal 101 100000000)
     go nan c f g p l h w k = absurd p
     go (inf t) c f g p l h w k = absurd p
     go (fin t n d) nan f g p l h w k = absurd w
@@ -184,12 +177,13 @@ near b c f g r w k = go b c f g (volatility-positive b r) (at-least low high b r
         let b = fin t n d in
         let gap = apart s (m * up e * down d) t (n * up d * down e) in
         let z = down e * down d in
-        let within : T (half ⊗ round binary64 false gap z ≼ slope ⊗ b ⊕ floor) =
+        let within : T (half ⊗ round binary64 false gap z ≼ slope ⊗ b ⊕ base) =
         subst (λ (x : Float). T (half ⊗ round binary64 false gap z ≼ x)) (tolerance-at b p)
         (subst (λ (x : Float). T (x ≼ tolerance b)) (middle-is t n d s m e) k) in
         let close : gap * bottom ≤ top * z =
         le-of-suc-le-suc (lt-of-not-le (λ (o : top * z < gap * bottom). far b p l h gap z (mul-pos (down-pos e) (down-pos d)) (le-of-lt o) within)) in
-        subst (λ (x : ℕ). x ≤ units (decimal 101 100000000)) (sym (distance-is t n d s m e ∙ apart-turns t (units b) s (units (fin s m e))))
-        (fewer s t (m * up e) (down e) (n * up d) (down d) (units (fin s m e)) (units b) (2 ^ 1074) top bottom (units (decimal 101 100000000)) (down-pos e)
+        subst (λ (x : ℕ). x ≤ unitsOf (decimal 101 100000000)) (sym (distance-is t n d s m e ∙ apart-turns t (unitsOf b) s (unitsOf (fin s m e))))
+        (fewer s t (m * up e) (down e) (n * up d) (down d) (unitsOf (fin s m e)) (unitsOf b) (2 ^ 1074) top bottom (unitsOf (decimal 101 100000000))
+        (down-pos e)
         (down-pos d) (lit< tt)
-        (units-exact s m e g) (units-exact t n d f) reach-units close)
+        (units-exact s m e g) (units-exact t n d f) span-units close)

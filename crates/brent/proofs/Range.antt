@@ -4,21 +4,20 @@
 -- follows from i + 1; since i is at least 4, three quarters of i + 1 are at most i. Assumes nothing.
 use mathlib.Core.Path.{_≡_, refl, sym, ap, _∙_, subst}
 use Prim.Native.Nat.{ℕ, _+_, _-_, _*_, _^_, _≤_, zero-le}
-use native.Mathlib.Nat.{le-trans, le-of-lt, lt-of-not-le, zero-mul, add-zero, mul-pos, mul-le-mul-right}
+use native.Mathlib.Nat.{le-trans, le-of-lt, lt-of-not-le, mul-pos, mul-le-mul-right}
 use native.Mathlib.Decide.{decLe}
 use native.Mathlib.Omega.{arith}
 use mathlib.Core.Bool.{Bool, true, false, _&&_}
 use lib.IntN.{ℤ, pos, negsuc}
 use lib.Dec.{T, ltb, eqb, leb→le, lit<, lit≤}
-use borrow.Author.Tests.{le-ltb}
-use lib.Ieee.{Float, nan, inf, fin, binary64, up, down, neg, lt, add, mul, round, fits}
+use lib.Ieee.{Float, nan, inf, fin, binary64, up, down, neg, add, mul, round, fits}
 use lib.Ieee.Fits.{down-pos, and-i, mul-fits, sub-fits, neg-fits}
 use lib.Ieee.Bits.{is-true}
 use lib.Ieee.Positive.{num, den, positive, le→cross, through, den-pos}
 use Rattle.floats.specs.Operators.{decimal, _⊕_, _⊖_, _⊗_, _⊘_, _≺_, _≼_, if_then_else_}
 use Rattle.floats.specs.Values.{magnitude, minimum, negative, copysign}
 use Rattle.floats.proofs.Tests.{by, split, clash, and-right, and-false, or-left-false}
-use Rattle.floats.proofs.Signs.{O, not-both-signs}
+use Rattle.floats.proofs.Signs.{O, not-both-signs, neg-below}
 use Rattle.floats.proofs.Short.{Short, short-of, AtMost, le-of-most, most-round, most-scale, Quarter, quarter}
 use Rattle.floats.proofs.Minimum.{negative-round}
 use Rattle.floats.proofs.Quotients.{Toward, toward-of, negative-scale, quotient-toward}
@@ -31,7 +30,7 @@ use Rattle.brent.specs.declared.LastSteps.{LastSteps}
 use Rattle.brent.specs.Brent.{TOL, EPSILON, reset, swap, tolerance, middle, converged, turned, interpolation, tries, reach, accepts, steps, step, advance}
 use Rattle.brent.specs.Feed.{placed, inRange}
 use Rattle.brent.specs.Claim.{PointOf, last, best, opposing}
-use Rattle.brent.proofs.Near.{slope, floor, low, high, least-positive, most-positive, tolerance-at, tolerance-least, tolerance-most, tolerance-positive}
+use Rattle.brent.proofs.Near.{slope, base, low, high, least-positive, most-positive, tolerance-at, tolerance-least, tolerance-most, tolerance-positive}
 use Rattle.brent.proofs.Near.{is-half}
 
 -- ---- the range, as fractions: 0.000001 is exactly millionth over 2^72
@@ -73,22 +72,22 @@ record Tolerance (x : Float) : Type 0 where
   to : num x ≤ den x
   from : 9 * den x ≤ num x * 2 ^ 1074
 
-small-most : num (slope ⊗ high ⊕ floor) ≤ den (slope ⊗ high ⊕ floor)
+small-most : num (slope ⊗ high ⊕ base) ≤ den (slope ⊗ high ⊕ base)
 unfolding round mul add
-small-most = leb→le (num (slope ⊗ high ⊕ floor)) (den (slope ⊗ high ⊕ floor)) tt
+small-most = leb→le (num (slope ⊗ high ⊕ base)) (den (slope ⊗ high ⊕ base)) tt
 
-large-least : 9 * den (slope ⊗ low ⊕ floor) ≤ num (slope ⊗ low ⊕ floor) * 2 ^ 1074
+large-least : 9 * den (slope ⊗ low ⊕ base) ≤ num (slope ⊗ low ⊕ base) * 2 ^ 1074
 unfolding round mul add
-large-least = leb→le (9 * den (slope ⊗ low ⊕ floor)) (num (slope ⊗ low ⊕ floor) * 2 ^ 1074) tt
+large-least = leb→le (9 * den (slope ⊗ low ⊕ base)) (num (slope ⊗ low ⊕ base) * 2 ^ 1074) tt
 
 tolerance-in : (b : Float) → isVolatility b ≡ true → Tolerance (tolerance b)
 tolerance-in b h =
     let p = volatility-positive b h in
     let l = at-least low high b h in
     let u = at-most low high b h in
-    let x = slope ⊗ b ⊕ floor in
-    let most = slope ⊗ high ⊕ floor in
-    let least = slope ⊗ low ⊕ floor in
+    let x = slope ⊗ b ⊕ base in
+    let most = slope ⊗ high ⊕ base in
+    let least = slope ⊗ low ⊕ base in
     let q = tolerance-positive b p l u in
     let a : num x * den most ≤ num most * den x = le→cross x most q most-positive (tolerance-most b p l u) in
     let c : num least * den x ≤ num x * den least = le→cross least x least-positive q (tolerance-least b p l u) in
@@ -101,14 +100,6 @@ tolerance-in b h =
     })
 
 -- ---- the interpolation: p is not below 0 once turned, and q is a float
-neg-below : (p : Float) → neg p ≺ O ≡ O ≺ p
-unfolding neg lt round
-neg-below nan = refl
-neg-below (inf s) = refl
-neg-below (fin true m e) = le-ltb (m * up e * 1) (0 * down e) (let z = zero-mul (down e) in omega arith)
-neg-below (fin false m e) = ap (λ (x : ℕ). ltb 0 (m * up e * 1 + x)) (zero-mul (down e)) ∙ ap (ltb 0) (add-zero (m * up e * 1)) ∙ ap
-    (λ (x : ℕ). ltb x (m * up e * 1)) (sym (zero-mul (down e)))
-
 record Sound (r : Ratio) : Type 0 where
   sign : r .p ≺ O ≡ false
   fit : T (fits binary64 (r .q))

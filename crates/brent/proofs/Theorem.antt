@@ -19,7 +19,8 @@ use Rattle.brent.specs.declared.Points.{Points}
 use Rattle.brent.specs.declared.Solver.{Solver}
 use Rattle.brent.specs.declared.Answer.{Answer}
 use Rattle.brent.specs.declared.Answer.the-variants.{Ask, Found, Refused}
-use Rattle.brent.specs.Outcome.{Values, Reply, asking, ended, zeros, outcome}
+use Rattle.brent.specs.declared.Solution.{Solution}
+use Rattle.brent.specs.Outcome.{Reply, asking, ended, zeros, outcome}
 use Rattle.brent.specs.Feed.{over, fresh, refuse, ask, find, isUnusable, isUnbracketed, feedNumber, start, feed}
 use Rattle.brent.specs.Run.{Tried, Run, tryNext, feedAll, feedWith, run, runWith}
 use Rattle.brent.specs.Claim.{Obtained, evaluationsOf, Given, five, eleven, twelve, thirteen, Blank, AllZero, Unusable, Unbracketed, Ran}
@@ -46,7 +47,7 @@ reply-count : (market : Float) (h : List Tried) (r : Reply) → Good market h r 
 unfolding evaluationsOf
 reply-count market h (asking v s) g = let l = live-count market v h s (g .1) in (l .0, omega arith)
 reply-count market h (ended (done x) s) g = let l = g .2 .at-most in (g .1, omega arith)
-reply-count market h (ended (refused k x) s) g = (unfold zeros in ap (λ (y : Values). y .evaluations) (g .1), given-below (g .2) .1)
+reply-count market h (ended (refused k x) s) g = (unfold zeros in ap (λ (y : Solution). y .evaluations) (g .1), given-below (g .2) .1)
 
 handed-back : (s : Solver) (price : Float) → isUnusable s ≡ true → feed s price ≡ ended (refused 21 (zeros 0)) s
 unfolding feed feedNumber first
@@ -78,14 +79,14 @@ ran market r g i =
     at : {w : Reply} → r .reply ≡ w → Good market (r .tried) w
     at e = subst (Good market (r .tried)) e g
 
-    ended-over : (o : Outcome Values) (s : Solver) → Good market (r .tried) (ended o s) → s ≡ over
+    ended-over : (o : Outcome Solution) (s : Solver) → Good market (r .tried) (ended o s) → s ≡ over
     ended-over (done x) s k = k .0
     ended-over (refused n x) s k = k .0
 
-    refused-with : (number : ℕ) (x : Values) → x ≡ zeros (length (r .tried)) → Given number (length (r .tried))
+    refused-with : (number : ℕ) (x : Solution) → x ≡ zeros (length (r .tried)) → Given number (length (r .tried))
         → Given number (x .evaluations) × (x ≡ zeros (x .evaluations))
     refused-with number x z k =
-        let e : x .evaluations ≡ length (r .tried) = unfold zeros in ap (λ (y : Values). y .evaluations) z in
+        let e : x .evaluations ≡ length (r .tried) = unfold zeros in ap (λ (y : Solution). y .evaluations) z in
         (subst (Given number) (sym e) k, z ∙ ap zeros (sym e))
 
 -- ---- a run on the prices of a function is the run on the list of those prices
@@ -130,7 +131,7 @@ module _ (price : Float → Float) where
     with-ran : Ran market with-run
     with-ran = ran market with-run with-good (λ t m. run-in market (obtained (with-run .tried)) (subst (λ (r : Run). List·Memᴰ t (r .tried)) as-list m))
 
-    finished : (r : Reply) → with-run .reply ≡ r → (o : Outcome Values) × (r ≡ ended o over)
+    finished : (r : Reply) → with-run .reply ≡ r → (o : Outcome Solution) × (r ≡ ended o over)
     finished (asking v s) e =
         let n : length (with-run .tried) ≡ 52 = unfold runWith in still-asking 52 (start market) v s e in
         let l = live-count market v (with-run .tried) s (subst (Good market (with-run .tried)) e with-good .1) .1 in
@@ -168,10 +169,10 @@ record Told (s : Solver) (price : Float) (k : ℕ) : Type 0 where
   thirteen : k ≡ 13 → s .rounds ≡ 50
 
 -- a refusal has one of the four numbers
-abbrev Known : Reply → Type 0
-Known (asking v s) = Unit
-Known (ended (done x) s) = Unit
-Known (ended (refused k x) s) = OfFeed k
+abbrev Numbered : Reply → Type 0
+Numbered (asking v s) = Unit
+Numbered (ended (done x) s) = Unit
+Numbered (ended (refused k x) s) = OfFeed k
 
 not-14 : {k : ℕ} → OfFeed k → k ≡ 14 → ⊥
 not-14 by-21 e = omega arith
@@ -179,21 +180,21 @@ not-14 by-11 e = omega arith
 not-14 by-12 e = omega arith
 not-14 by-13 e = omega arith
 
-record Answered (s : Solver) (price : Float) (r : Reply) : Type 0 where
+record Answers (s : Solver) (price : Float) (r : Reply) : Type 0 where
   back : number-of r ≡ 21 → (isUnusable s ≡ true) × (r ≡ ended (refused 21 (zeros 0)) s)
-  left : isUnusable s ≡ false → {o : Outcome Values} {t : Solver} → r ≡ ended o t → t ≡ over
+  left : isUnusable s ≡ false → {o : Outcome Solution} {t : Solver} → r ≡ ended o t → t ≡ over
   told : Told s price (number-of r)
-  known : Known r
+  known : Numbered r
 
 module _ (s : Solver) (price : Float) where
   tells-nothing : (k : ℕ) → (k ≡ 11 → ⊥) → (k ≡ 12 → ⊥) → (k ≡ 13 → ⊥) → Told s price k
   tells-nothing k p q r = record { eleven = λ e. absurd (p e); twelve = λ e. absurd (q e); thirteen = λ e. absurd (r e) }
 
-  refused-answer : (k n : ℕ) → (k ≡ 21 → ⊥) → OfFeed k → Told s price k → Answered s price (refuse k n)
+  refused-answer : (k n : ℕ) → (k ≡ 21 → ⊥) → OfFeed k → Told s price k → Answers s price (refuse k n)
   unfolding refuse
   refused-answer k n p f q = record { back = λ e. absurd (p e); left = λ h e. cc; told = q; known = f }
 
-  asked-answer : (market : Float) (p : Points) (r n : ℕ) → Answered s price (ask market p r n)
+  asked-answer : (market : Float) (p : Points) (r n : ℕ) → Answers s price (ask market p r n)
   unfolding ask
   asked-answer market p r n =
       record {
@@ -203,7 +204,7 @@ module _ (s : Solver) (price : Float) where
         known = tt;
       }
 
-  found-answer : (p : Points) (n : ℕ) → Answered s price (find p n)
+  found-answer : (p : Points) (n : ℕ) → Answers s price (find p n)
   unfolding find
   found-answer p n =
       record {
@@ -213,10 +214,10 @@ module _ (s : Solver) (price : Float) where
         known = tt;
       }
 
-  answered : Answered s price (feed s price)
-  answered =
+  answers : Answers s price (feed s price)
+  answers =
       let n = s .evaluations + 1 in
-      feed-by s price (Answered s price)
+      feed-by s price (Answers s price)
       (record {
         at-21 = λ h. record {
           back = λ e. (h, refl);
@@ -299,7 +300,7 @@ module _ (s : Solver) (price : Float) where
 
 fed : (s : Solver) (price : Float) → Fed s price
 fed s price =
-    let k = answered s price in
+    let k = answers s price in
     record {
       when-21 = λ u. handed-back s price (unusable-test s u);
       only-21 = λ e. unusable-of s (k .back (ap number-of e) .0);
@@ -308,8 +309,8 @@ fed s price =
       asks-in-range = λ {v} {t} e. asked e .0;
       points-in-range = λ {v} {x} {t} e p. in-at (t .points) (asked e .1) p;
       found-in-range = λ e. subst Ranged e (feed-ranged s price);
-      never-14 = λ e. not-14 (subst Known e (k .known)) refl;
-      numbers = λ e. subst Known e (k .known);
+      never-14 = λ e. not-14 (subst Numbered e (k .known)) refl;
+      numbers = λ e. subst Numbered e (k .known);
       only-11 = λ e. k .told .eleven (ap number-of e);
       when-11 = λ h n. unfold refuse in at-11 s price (lets-through h) n;
       when-12 = λ h n u. unfold refuse in at-12 s price (lets-through h) n u;
@@ -328,34 +329,27 @@ fed s price =
         go true e = absurd (h (unusable-of s e))
         go false e = e
 
-    back : (x : Values) (t : Solver) → ended (refused 21 (zeros 0)) s ≡ ended (refused 21 x) t → (t ≡ s) × (x ≡ zeros 0)
+    back : (x : Solution) (t : Solver) → ended (refused 21 (zeros 0)) s ≡ ended (refused 21 x) t → (t ≡ s) × (x ≡ zeros 0)
     back x t e = (cc, cc)
 
 -- ---- the reading of an answer
 same-count : (n m : ℕ) → zeros n ≡ zeros m → n ≡ m
 unfolding zeros
-same-count n m e = ap (λ (x : Values). x .evaluations) e
+same-count n m e = ap (λ (x : Solution). x .evaluations) e
 
 refused-alike : (j n : ℕ) (s : Solver) (k m : ℕ) (t : Solver) → ended (refused j (zeros n)) s ≡ ended (refused k (zeros m)) t → Refused j n s ≡ Refused k m t
 refused-alike j n s k m t e = cc (same-count n m (cc))
 
--- an answer that found, from its values
-found-of : Values → Solver → Answer
-found-of x s = Found (x .volatility) (x .error) (x .c) (x .c-error) (x .evaluations) s
-
-found-alike : (x y : Values) (s t : Solver) → ended (done x) s ≡ ended (done y) t → found-of x s ≡ found-of y t
-found-alike x y s t e = cc
-
 determined : (a b : Answer) → outcome a ≡ outcome b → a ≡ b
 unfolding outcome
 determined (Ask v s) (Ask w t) e = cc
-determined (Ask v s) (Found w x c y n t) e = absurd (let z : _≡_ {A = ℕ} 0 1 = cc in omega arith)
+determined (Ask v s) (Found x t) e = absurd (let z : _≡_ {A = ℕ} 0 1 = cc in omega arith)
 determined (Ask v s) (Refused k n t) e = absurd (let z : _≡_ {A = ℕ} 0 1 = cc in omega arith)
-determined (Found v x c y n s) (Ask w t) e = absurd (let z : _≡_ {A = ℕ} 0 1 = cc in omega arith)
-determined (Found v x c y n s) (Found v' x' c' y' n' t) e = unfold found-of in found-alike _ _ s t e
-determined (Found v x c y n s) (Refused k m t) e = absurd (let z : _≡_ {A = ℕ} 0 1 = cc in omega arith)
+determined (Found x s) (Ask w t) e = absurd (let z : _≡_ {A = ℕ} 0 1 = cc in omega arith)
+determined (Found x s) (Found y t) e = cc
+determined (Found x s) (Refused k m t) e = absurd (let z : _≡_ {A = ℕ} 0 1 = cc in omega arith)
 determined (Refused j n s) (Ask w t) e = absurd (let z : _≡_ {A = ℕ} 0 1 = cc in omega arith)
-determined (Refused j n s) (Found w x c y m t) e = absurd (let z : _≡_ {A = ℕ} 0 1 = cc in omega arith)
+determined (Refused j n s) (Found x t) e = absurd (let z : _≡_ {A = ℕ} 0 1 = cc in omega arith)
 determined (Refused j n s) (Refused k m t) e = refused-alike j n s k m t e
 
 blank : (n : ℕ) → Blank n (zeros n)

@@ -11,4 +11,4 @@ use Rattle.brent.specs.Run.{run}
 pub record Examples : Type 0 where
   pub refused-12 : (run (decimal 1 1) (decimal 1 2 ∷ decimal 1 4 ∷ [])) .reply ≡ ended (refused 12 (zeros 2)) over
   pub found-10 : (run (decimal 1 1) (decimal 1 2 ∷ decimal 1 1 ∷ [])) .reply
-      ≡ ended (done (record { volatility = decimal 10 1; error = decimal 0 1; c = decimal 1 1000000; c-error = neg (decimal 1 2); evaluations = 2 })) over
+      ≡ ended (done (record { volatility = decimal 10 1; error = decimal 0 1; c = decimal 1 1000000; «c_error» = neg (decimal 1 2); evaluations = 2 })) over

@@ -12,7 +12,15 @@ use Rattle.limits.specs.Outcome.{done, refused}
 use Rattle.brent.specs.declared.Points.{Points}
 use Rattle.brent.specs.declared.Solver.{Solver}
 use Rattle.brent.specs.Brent.{reset, swap, converged, advance}
+use Rattle.brent.specs.declared.Solution.{Solution}
 use Rattle.brent.specs.Outcome.{Reply, asking, ended, zeros}
+
+-- "2 for the ends, then one a round": 13 comes with the price of the last round.
+abbrev pub mostRounds : ℕ
+mostRounds = 50
+
+abbrev pub mostEvaluations : ℕ
+mostEvaluations = 52
 
 -- "An ended state's numbers are all 0."
 unfoldable pub over : Solver
@@ -39,8 +47,12 @@ refuse number evaluations = ended (refused number (zeros evaluations)) over
 unfoldable pub ask : Float → Points → ℕ → ℕ → Reply
 ask market p rounds evaluations = asking (p .b) (record { market = market; points = p; rounds = rounds; evaluations = evaluations })
 
+-- "Its answer carries volatility, error, the opposing point c with its error, and evaluations."
+abbrev pub solution : Points → ℕ → Solution
+solution p evaluations = record { volatility = p .b; error = p .fb; c = p .c; «c_error» = p .fc; evaluations = evaluations }
+
 unfoldable pub find : Points → ℕ → Reply
-find p evaluations = ended (done (record { volatility = p .b; error = p .fb; c = p .c; c-error = p .fc; evaluations = evaluations })) over
+find p evaluations = ended (done (solution p evaluations)) over
 
 -- 5 at the start. The price at the lower end is asked for first.
 unfoldable pub start : Float → Reply
@@ -61,7 +73,7 @@ inRange p = isVolatility (p .a) && isVolatility (p .b) && isVolatility (p .c)
 
 -- 21. It ended (a market of 0.0 passes no start), or its state "holds more than 50 rounds or 52 evaluations" or, since S-10, "a point not in that range".
 unfoldable pub isUnusable : Solver → Bool
-isUnusable s = eq (s .market) (decimal 0 1) || ltb 50 (s .rounds) || ltb 52 (s .evaluations) || not (inRange (s .points))
+isUnusable s = eq (s .market) (decimal 0 1) || ltb mostRounds (s .rounds) || ltb mostEvaluations (s .evaluations) || not (inRange (s .points))
 
 -- 12. The two end errors have a product above 0: known once the second end's price is.
 unfoldable pub isUnbracketed : Solver → Float → Bool
@@ -73,7 +85,7 @@ feedNumber s error =
     first (isUnusable s) 21
     (first (not (finite error)) 11
     (first (isUnbracketed s error) 12
-    (first (leb 50 (s .rounds)) 13
+    (first (leb mostRounds (s .rounds)) 13
     none)))
 
 -- The answer to the volatility asked for last, whose price is fed. It counts as an evaluation, "the one refused by 11 included". "21 hands a state back

@@ -3,7 +3,7 @@ use Prim.Native.Nat.{ℕ, zero, suc}
 use mathlib.Core.List.{List, [], _∷_}
 use lib.Ieee.{Float}
 use Rattle.brent.specs.Outcome.{Reply, asking, ended}
-use Rattle.brent.specs.Feed.{start, feed}
+use Rattle.brent.specs.Feed.{mostEvaluations, start, feed}
 
 -- A point that was tried, and the price obtained there.
 pub record Tried : Type 0 where
@@ -35,4 +35,4 @@ unfoldable pub run : Float → List Float → Run
 run market prices = feedAll prices (start market)
 
 unfoldable pub runWith : Float → (Float → Float) → Run
-runWith market price = feedWith 52 price (start market)
+runWith market price = feedWith mostEvaluations price (start market)

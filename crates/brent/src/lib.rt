@@ -3,6 +3,7 @@ ghost use mathlib.Core.Path.{_≡_};
 ghost use Rattle.brent.specs.Brent.{reset, swap, tolerance, middle, converged, turned, interpolation, tries, accepts, steps, step, advance};
 ghost use Rattle.brent.specs.Outcome.{outcome};
 ghost use Rattle.brent.specs.Feed.{over, fresh, refuse, ask, find, start, placed, inRange, isUnusable, isUnbracketed, feedNumber, feed};
+use limits::first;
 
 // A round's numbers: the last point a, the best b and the opposing c, their errors, and the last two steps.
 pub struct Points {
@@ -24,6 +25,15 @@ pub struct Solver {
     pub evaluations: u64,
 }
 
+// What a solver found, with its evidence: the error of the volatility, and the opposing point c with its error.
+pub struct Solution {
+    pub volatility: f64,
+    pub error: f64,
+    pub c: f64,
+    pub c_error: f64,
+    pub evaluations: u64,
+}
+
 // Asking for the price at a volatility, found, or refused; `next` is the state that follows.
 pub enum Answer {
     Ask {
@@ -31,11 +41,7 @@ pub enum Answer {
         next: Solver,
     },
     Found {
-        volatility: f64,
-        error: f64,
-        c: f64,
-        c_error: f64,
-        evaluations: u64,
+        solution: Solution,
         next: Solver,
     },
     Refused {
@@ -344,20 +350,15 @@ fn is_unbracketed(s: Solver, error: f64) -> bool
 fn feed_number(s: Solver, error: f64) -> u64
     ensures { λ r. ⌜ r ≡ feedNumber s error ⌝ }
 {
-    let rounds = s.rounds;
-    if is_unusable(s) {
-        return 21;
-    }
-    if !floats::is_finite(error) {
-        return 11;
-    }
-    if is_unbracketed(s, error) {
-        return 12;
-    }
-    if rounds >= 50 {
-        return 13;
-    }
-    0
+    first(
+        is_unusable(s),
+        21,
+        first(
+            !floats::is_finite(error),
+            11,
+            first(is_unbracketed(s, error), 12, first(s.rounds >= 50, 13, 0)),
+        ),
+    )
 }
 
 // The solver asks for the price at b.
@@ -379,12 +380,15 @@ fn ask(market: f64, points: Points, rounds: u64, evaluations: u64) -> Answer
 fn find(p: Points, evaluations: u64) -> Answer
     ensures { λ r. ⌜ outcome r ≡ find p evaluations ⌝ }
 {
-    Answer::Found {
+    let solution = Solution {
         volatility: p.b,
         error: p.fb,
         c: p.c,
         c_error: p.fc,
         evaluations,
+    };
+    Answer::Found {
+        solution,
         next: over(),
     }
 }

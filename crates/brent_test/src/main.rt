@@ -81,20 +81,13 @@ fn tell(answer: Answer) -> Solver {
             io::write_all(1, b"\n");
             next
         }
-        Answer::Found {
-            volatility,
-            error,
-            c,
-            c_error,
-            evaluations,
-            next,
-        } => {
+        Answer::Found { solution, next } => {
             io::write_all(1, b"found");
-            put_float(volatility);
-            put_float(error);
-            put_float(c);
-            put_float(c_error);
-            put_count(evaluations);
+            put_float(solution.volatility);
+            put_float(solution.error);
+            put_float(solution.c);
+            put_float(solution.c_error);
+            put_count(solution.evaluations);
             put_state(next);
             io::write_all(1, b"\n");
             next

@@ -1,125 +1,104 @@
 -- What the checks of a build say together: what holds when none before the axes does, and what the axes then add. Assumes nothing.
 use Prim.Native.Nat.{ℕ, _≤_}
-use mathlib.Core.Path.{_≡_, refl, sym, _∙_}
-use mathlib.Core.Bool.{Bool, true, false, not, _||_}
-use mathlib.Core.List.{List}
+use mathlib.Core.Path.{_≡_, refl}
+use mathlib.Core.Bool.{Bool, true, false, not}
+use mathlib.Core.List.{List, [], _∷_}
 use native.Mathlib.Omega.{arith}
 use lib.Dec.{ltb}
 use lib.ListN.{length}
-use lib.Ieee.{Float}
 use borrow.Author.Tests.{ltb-false, not-false, ne-eqb}
+use Rattle.floats.proofs.Tests.{or-left-false, or-right-false}
 use Rattle.limits.specs.Checks.{first, none}
-use Rattle.grid.specs.Answers.{answered, unlessRefused}
-use Rattle.grid.proofs.ReadChecks.{neither}
-use Rattle.chart.specs.Quotes.{quotes, allInRange}
-use Rattle.chart.specs.Cells.{cell, count}
-use Rattle.chart.specs.Build.{front, table, refusal, numberOf, surface, Builds}
+use Rattle.limits.specs.Outcome.{answered, unlessRefused}
+use Rattle.limits.proofs.Checks.{Rows, passes, stays, none-of}
+use Rattle.chart.specs.Quotes.{Quote, Columns, quotes, isShort, allInRange}
+use Rattle.chart.specs.Cells.{axes}
+use Rattle.chart.specs.Build.{Buffers, surfaceOf, isWrong, isSmall, refusal, BuildsTo}
+use Rattle.chart.specs.Steps.{numberBy, axesRefusal}
 use Rattle.chart.specs.declared.Built.the-variants.{Surface, Refused}
-use Rattle.floats.proofs.Tests.{split}
+use Rattle.chart.proofs.Kept.{long}
 
--- 16 and 17
-abbrev pub axesRefusal : ℕ → ℕ → ℕ
-axesRefusal strikes expiries = first (ltb 64 strikes) 16 (first (ltb 32 expiries) 17 none)
+-- ---- the checks that come before the axes
+abbrev rows : Columns → ℕ → Bool → Rows
+rows c kept small = (isShort c, 1) ∷ (isWrong c kept, 2) ∷ (small, 15) ∷ []
 
-abbrev chain : Bool → Bool → Bool → ℕ → ℕ
-chain a b c rest = first a 1 (first b 2 (first c 15 rest))
-
-chain-none : (a b c : Bool) → chain a b c 0 ≡ 0 → (a ≡ false) × (b ≡ false) × (c ≡ false)
-unfolding first
-chain-none true b c h = (let z : ⊥ = omega arith in absurd z)
-chain-none false true c h = (let z : ⊥ = omega arith in absurd z)
-chain-none false false true h = (let z : ⊥ = omega arith in absurd z)
-chain-none false false false h = (refl, refl, refl)
-
-chain-same : (a b c : Bool) (n rest : ℕ) → n ≡ chain a b c 0 → (n ≡ 0 → ⊥) → chain a b c rest ≡ n
-unfolding first
-chain-same true b c n rest h k = sym h
-chain-same false true c n rest h k = sym h
-chain-same false false true n rest h k = sym h
-chain-same false false false n rest h k = absurd (k h)
-
--- axes that are not turned down fit
-pub axes-fit : (k t : ℕ) → axesRefusal k t ≡ 0 → (k ≤ 64) × (t ≤ 32)
-unfolding first
-axes-fit k t h =
-    split (ltb 64 k)
-    (λ a. (let z : _≡_ {A = ℕ} 16 0 = (rw a at h) in let w : ⊥ = omega arith in absurd w))
-    (λ a. split (ltb 32 t)
-    (λ b. (let z : _≡_ {A = ℕ} 17 0 = (rw (a, b) at h) in let w : ⊥ = omega arith in absurd w))
-    (λ b. (ltb-false 64 k a, ltb-false 32 t b)))
-
--- 1
-pub long-columns : (k t v : ℕ) → (ltb k 1024 || ltb t 1024 || ltb v 1024) ≡ false → (1024 ≤ k) × (1024 ≤ t) × (1024 ≤ v)
-long-columns k t v h =
-    let a = neither (ltb k 1024 || ltb t 1024) (ltb v 1024) h in
-    let b = neither (ltb k 1024) (ltb t 1024) (a .0) in
-    (ltb-false k 1024 (b .0), ltb-false t 1024 (b .1), ltb-false v 1024 (a .1))
-
--- the two ends of a build
-module _ (ks ts vs : List Float) (kept : ℕ) (ka ta g : List Float) (c : List ℕ) where
-  pub builds-refused : (n : ℕ) → numberOf ks ts vs kept ka ta g c ≡ n → (n ≡ 0 → ⊥) → Builds ks ts vs kept ka ta g c (Refused n) ka ta g c
-  unfolding answered unlessRefused
-  builds-refused n e z =
-      let t = ne-eqb n 0 z in
-      record { answers = rw (e, t); strikes = rw (e, t); expiries = rw (e, t); cells = rw (e, t); counted = rw (e, t) }
-
-  pub builds-done : (ka' ta' g' : List Float) (c' : List ℕ) (nk nt : ℕ) → numberOf ks ts vs kept ka ta g c ≡ 0
-      → nk ≡ length (surface ks ts vs kept .strikes) → nt ≡ length (surface ks ts vs kept .expiries)
-      → ka' ≡ front (surface ks ts vs kept .strikes) ka → ta' ≡ front (surface ks ts vs kept .expiries) ta
-      → g' ≡ table (length (surface ks ts vs kept .expiries)) (length (surface ks ts vs kept .strikes)) (cell (surface ks ts vs kept) (quotes kept ks ts vs)) g
-      → c' ≡ table (length (surface ks ts vs kept .expiries)) (length (surface ks ts vs kept .strikes)) (λ i j. count (surface ks ts vs kept) i j (quotes kept ks ts vs)) c
-      → Builds ks ts vs kept ka ta g c (Surface nk nt) ka' ta' g' c'
-  unfolding answered unlessRefused
-  builds-done ka' ta' g' c' nk nt e hk ht a b d f =
-      record { answers = rw (e, hk, ht); strikes = rw e a; expiries = rw e b; cells = rw e d; counted = rw e f }
-
--- no check before the axes holds
-pub record Passed (ks ts vs : List Float) (kept : ℕ) (ka ta g : List Float) (c : List ℕ) : Type 0 where
-  pub strikes : 1024 ≤ length ks
-  pub expiries : 1024 ≤ length ts
-  pub volatilities : 1024 ≤ length vs
+-- ---- 1 and 2 do not hold
+pub record Sound (c : Columns) (kept : ℕ) : Type 0 where
+  pub strikes : kept ≤ length (c .strikes)
+  pub expiries : kept ≤ length (c .expiries)
+  pub volatilities : kept ≤ length (c .volatilities)
   pub few : kept ≤ 1024
-  pub ranged : allInRange (quotes kept ks ts vs) ≡ true
-  pub long-strikes : 64 ≤ length ka
-  pub long-expiries : 32 ≤ length ta
-  pub long-grid : 2048 ≤ length g
-  pub long-counts : 2048 ≤ length c
-  pub number : (k t : ℕ) → refusal ks ts vs kept (length ka) (length ta) (length g) (length c) k t ≡ axesRefusal k t
+  pub ranged : allInRange (quotes c kept) ≡ true
 
-module _ (ks ts vs : List Float) (kept : ℕ) (ka ta g : List Float) (c : List ℕ) (n : ℕ) (h : n ≡ refusal ks ts vs kept (length ka) (length ta) (length g) (length c) 0 0) where
-  abbrev short : Bool
-  short = ltb (length ks) 1024 || ltb (length ts) 1024 || ltb (length vs) 1024
+sound : (c : Columns) (kept : ℕ) → isShort c ≡ false → isWrong c kept ≡ false → Sound c kept
+unfolding isWrong
+sound c kept h w =
+    let l = long c h in
+    let many = ltb 1024 kept in
+    let out = not (allInRange (quotes c kept)) in
+    let few : kept ≤ 1024 = ltb-false 1024 kept (or-left-false many out w) in
+    record {
+      strikes = omega (arith, l .strikes);
+      expiries = omega (arith, l .expiries);
+      volatilities = omega (arith, l .volatilities);
+      few = few;
+      ranged = not-false _ (or-right-false many out w);
+    }
 
-  abbrev wrong : Bool
-  wrong = ltb 1024 kept || not (allInRange (quotes kept ks ts vs))
+module _ (c : Columns) (kept : ℕ) (small : Bool) where
+  pub none-yet : numberBy c kept small none ≡ none → Sound c kept × ((rest : ℕ) → rest ≡ numberBy c kept small rest)
+  unfolding first
+  none-yet h =
+      let p = passes (rows c kept small) none refl h .0 in
+      (sound c kept (p .0) (p .1 .0), λ rest. rw (p .0, p .1 .0, p .1 .1 .0))
 
-  abbrev small : Bool
-  small = ltb (length ka) 64 || ltb (length ta) 32 || ltb (length g) 2048 || ltb (length c) 2048
+  pub told-early : (n rest : ℕ) → n ≡ numberBy c kept small none → (n ≡ none → ⊥) → n ≡ numberBy c kept small rest
+  told-early n rest h z = stays (rows c kept small) n rest h z
 
-  pub passed : n ≡ 0 → Passed ks ts vs kept ka ta g c
-  unfolding refusal first
-  passed z =
-      let p = chain-none short wrong small (sym h ∙ z) in
-      let l = long-columns (length ks) (length ts) (length vs) (p .0) in
-      let w = neither (ltb 1024 kept) (not (allInRange (quotes kept ks ts vs))) (p .1) in
-      let d = neither (ltb (length ka) 64 || ltb (length ta) 32 || ltb (length g) 2048) (ltb (length c) 2048) (p .2) in
-      let e = neither (ltb (length ka) 64 || ltb (length ta) 32) (ltb (length g) 2048) (d .0) in
-      let f = neither (ltb (length ka) 64) (ltb (length ta) 32) (e .0) in
-      record {
-        strikes = l .0;
-        expiries = l .1;
-        volatilities = l .2;
-        few = ltb-false 1024 kept (w .0);
-        ranged = not-false _ (w .1);
-        long-strikes = ltb-false (length ka) 64 (f .0);
-        long-expiries = ltb-false (length ta) 32 (f .1);
-        long-grid = ltb-false (length g) 2048 (e .1);
-        long-counts = ltb-false (length c) 2048 (d .1);
-        number = λ k t. rw (p .0, p .1, p .2);
-      }
+-- the whole chain, 15 told by a test
+pub told : (c : Columns) (kept : ℕ) (s : Buffers) (small : Bool) → small ≡ isSmall s
+    → refusal c kept s ≡ numberBy c kept small (axesRefusal (length (axes (quotes c kept) .strikes)) (length (axes (quotes c kept) .expiries)))
+unfolding refusal
+told c kept s small e = rw e
 
-  pub refused : (n ≡ 0 → ⊥) → Builds ks ts vs kept ka ta g c (Refused n) ka ta g c
-  unfolding refusal first
-  refused z =
-      builds-refused ks ts vs kept ka ta g c n
-      (chain-same short wrong small n (axesRefusal (length (surface ks ts vs kept .strikes)) (length (surface ks ts vs kept .expiries))) h z) z
+-- ---- no check holds
+pub record Passed (c : Columns) (kept : ℕ) (s : Buffers) : Type 0 where
+  pub sound : Sound c kept
+  pub long-strikes : 64 ≤ length (s .strikes)
+  pub long-expiries : 32 ≤ length (s .expiries)
+  pub long-grid : 2048 ≤ length (s .grid)
+  pub long-counts : 2048 ≤ length (s .counts)
+  pub narrow : length (axes (quotes c kept) .strikes) ≤ 64
+  pub low : length (axes (quotes c kept) .expiries) ≤ 32
+
+pub passed : (c : Columns) (kept : ℕ) (s : Buffers) → refusal c kept s ≡ none → Passed c kept s
+unfolding refusal isSmall
+passed c kept s h =
+    let x = axes (quotes c kept) in
+    let k = ltb (length (s .strikes)) 64 in
+    let t = ltb (length (s .expiries)) 32 in
+    let g = ltb (length (s .grid)) 2048 in
+    let n = ltb (length (s .counts)) 2048 in
+    let p = passes (rows c kept (isSmall s)) (axesRefusal (length (x .strikes)) (length (x .expiries))) refl h in
+    let f = passes ((ltb 64 (length (x .strikes)), 16) ∷ (ltb 32 (length (x .expiries)), 17) ∷ []) none refl (p .1) .0 in
+    let l = none-of k (t ∷ g ∷ n ∷ []) (p .0 .1 .1 .0) in
+    record {
+      sound = sound c kept (p .0 .0) (p .0 .1 .0);
+      long-strikes = ltb-false (length (s .strikes)) 64 (l .0);
+      long-expiries = ltb-false (length (s .expiries)) 32 (l .1 .0);
+      long-grid = ltb-false (length (s .grid)) 2048 (l .1 .1 .0);
+      long-counts = ltb-false (length (s .counts)) 2048 (l .1 .1 .1 .0);
+      narrow = ltb-false 64 (length (x .strikes)) (f .0);
+      low = ltb-false 32 (length (x .expiries)) (f .1 .0);
+    }
+
+-- ---- the two ends of a build
+module _ (number : ℕ) (qs : List Quote) (s : Buffers) where
+  pub refused-by : (n : ℕ) → number ≡ n → (n ≡ none → ⊥) → BuildsTo number qs s (Refused n) s
+  unfolding answered unlessRefused
+  refused-by n e z = let t = ne-eqb n none z in record { answers = rw (e, t); buffers = rw (e, t) }
+
+  pub done-by : (s' : Buffers) (k t : ℕ) → number ≡ none → k ≡ length (axes qs .strikes) → t ≡ length (axes qs .expiries) → s' ≡ surfaceOf qs s
+      → BuildsTo number qs s (Surface k t) s'
+  unfolding answered unlessRefused
+  done-by s' k t e hk ht h = record { answers = rw (e, hk, ht); buffers = rw e h }

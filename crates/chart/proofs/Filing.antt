@@ -12,7 +12,7 @@ use borrow.Author.Tests.{eqb-true, eq-eqb}
 use Rattle.floats.specs.Operators.{decimal, _⊕_, if_then_else_}
 use Rattle.floats.proofs.Tests.{and-left, and-right, clash, split}
 use Rattle.grid.specs.Layout.{cellAt}
-use Rattle.chart.specs.Quotes.{Quote, quotes}
+use Rattle.chart.specs.Quotes.{Quote, Columns, quotes}
 use Rattle.chart.specs.Axis.{place}
 use Rattle.chart.specs.Cells.{Axes, counted, added}
 use Rattle.chart.specs.Steps.{OnAxis, OnAxes, Filed}
@@ -32,11 +32,10 @@ placed-drop x (suc k) [] h = tt
 placed-drop x (suc k) (q ∷ qs) h = placed-drop x k qs (h .2)
 
 -- the quote at i has its places
-pub home-of : (K E ks ts vs : List Float) (n i : ℕ) → n ≤ length ks → n ≤ length ts → n ≤ length vs → i < n
-    → OnAxes (record { strikes = K; expiries = E }) (quotes n ks ts vs) → OnAxis E (getD ts i nan) × OnAxis K (getD ks i nan)
-home-of K E ks ts vs n i a b c h m =
-    let x : Axes = record { strikes = K; expiries = E } in
-    let q = subst (λ (l : List Quote). OnAxes x l) (quotes-at ks ts vs n a b c i h) (placed-drop x i (quotes n ks ts vs) m) in
+pub home-of : (x : Axes) (c : Columns) (n i : ℕ) → i < n → OnAxes x (quotes c n)
+    → OnAxis (x .expiries) (getD (c .expiries) i nan) × OnAxis (x .strikes) (getD (c .strikes) i nan)
+home-of x c n i h m =
+    let q = subst (λ (l : List Quote). OnAxes x l) (quotes-at c n i h) (placed-drop x i (quotes c n) m) in
     (q .0, q .1)
 
 module _ (x : Axes) (qs : List Quote) where
@@ -57,7 +56,8 @@ module _ (x : Axes) (qs : List Quote) where
       }
 
   -- the counts stay small
-  pub file-few : (sums : List Float) (numbers : List ℕ) (k i j at : ℕ) → at ≡ cellAt i j → i < 32 → j < 64 → Filing sums numbers k → getD numbers at 0 ≤ length qs
+  pub file-few : (sums : List Float) (numbers : List ℕ) (k i j at : ℕ) → at ≡ cellAt i j → i < 32 → j < 64 → Filing sums numbers k
+      → getD numbers at 0 ≤ length qs
   file-few sums numbers k i j at e a b f = rw e (omega (arith, f .numbering i j a b, counted-most x i j qs))
 
   module _ (k a b : ℕ) (q : Quote) (e : drop k qs ≡ q ∷ drop (k + 1) qs) (ha : a ≡ place (x .expiries) (q .expiry)) (hb : b ≡ place (x .strikes) (q .strike))

@@ -1,5 +1,5 @@
 -- Opening a gap in a list, by a loop that carries the value to be stored next; copying to the front of a list. Assumes nothing.
-use Prim.Native.Nat.{ℕ, suc, _+_, _-_, _≤_, _<_}
+use Prim.Native.Nat.{ℕ, suc, _+_, _≤_, _<_}
 use mathlib.Core.Path.{_≡_}
 use mathlib.Core.List.{List, _∷_, _++_, append-assoc}
 use native.Mathlib.Omega.{arith}
@@ -20,7 +20,9 @@ gap-step a j n y h k =
     let s : j < suc j = omega arith in
     let t : j < suc n = omega arith in
     let u : j < length (take n a) = simp length-take-le (omega arith) in
-    rw (add-one, take-suc-set, take-set-lt, drop-set-lt (suc j) (take n a) j y s, drop-set-lt (suc n) a j y t, append-assoc, drop-cons (take n a) j nan u, getD-take)
+    let d = drop-set-lt (suc j) (take n a) j y s in
+    let e = drop-set-lt (suc n) a j y t in
+    rw (add-one, take-suc-set, take-set-lt, d, e, append-assoc, drop-cons (take n a) j nan u, getD-take)
 
 pub gap-end : (a : List Float) (n : ℕ) (y : Float) → n < length a → set a n y ≡ opened a n n y
 unfolding opened

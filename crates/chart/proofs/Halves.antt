@@ -1,6 +1,6 @@
 -- The searches by halves: on values that ascend, those above x stand together at the end, and so do those that take x or are above it; the first of
 -- these is the first that takes x, where there is one. Assumes nothing.
-use Prim.Native.Nat.{suc, _+_, _*_, _<_}
+use Prim.Native.Nat.{suc, _*_, _<_}
 use mathlib.Core.Path.{_≡_, refl, sym, ap, _∙_}
 use mathlib.Core.Bool.{true, false}
 use mathlib.Core.List.{List, [], _∷_}

@@ -50,11 +50,14 @@ expiries-pos (q ∷ qs) h =
     (expiry-positive (q .expiry) (and-right (isStrike (q .strike)) (isExpiry (q .expiry)) two), expiries-pos qs (and-right (inRange q) (allInRange qs) h))
 
 -- ---- every quote has a cell: those of a part of a list stand on the axes of the whole
-housed-on : (xs ys : List Float) (qs : List Quote) → Pos xs → Pos ys → ((z : Float) → Mem z (strikes qs) → Mem z xs) → ((z : Float) → Mem z (expiries qs) → Mem z ys)
+housed-on : (xs ys : List Float) (qs : List Quote) → Pos xs → Pos ys
+    → ((z : Float) → Mem z (strikes qs) → Mem z xs) → ((z : Float) → Mem z (expiries qs) → Mem z ys)
     → Housed (record { strikes = axis xs; expiries = axis ys }) qs
 housed-on xs ys [] p q f g = tt
 housed-on xs ys (k ∷ qs) p q f g =
-    (placed ys (k .expiry) q (g (k .expiry) (inl refl)), placed xs (k .strike) p (f (k .strike) (inl refl)), housed-on xs ys qs p q (λ z m. f z (inr m)) (λ z m. g z (inr m)))
+    let row = placed ys (k .expiry) q (g (k .expiry) (inl refl)) in
+    let column = placed xs (k .strike) p (f (k .strike) (inl refl)) in
+    (row, column, housed-on xs ys qs p q (λ z m. f z (inr m)) (λ z m. g z (inr m)))
 
 pub all-housed : (qs : List Quote) → allInRange qs ≡ true → Housed (axes qs) qs
 unfolding axes
@@ -141,7 +144,8 @@ busy : (x : Axes) (i : ℕ) (qs : List Quote) (z : Float) → Housed x qs → pl
 busy x i [] z h e m = absurd m
 busy x i (q ∷ qs) z h e (inl p) =
     let b = place (x .strikes) (q .strike) in
-    let t : eqb (place (x .expiries) (q .expiry)) i ≡ true = eq-eqb (place (x .expiries) (q .expiry)) i (ap (λ (y : Float). place (x .expiries) y) (sym p) ∙ e) in
+    let r = place (x .expiries) (q .expiry) in
+    let t : eqb r i ≡ true = eq-eqb r i (ap (λ (y : Float). place (x .expiries) y) (sym p) ∙ e) in
     (b, h .1, rw (count-more x i b q qs, t, eq-eqb b b refl) (omega arith))
 busy x i (q ∷ qs) z h e (inr m) =
     let t = busy x i qs z (h .2) e m in
@@ -150,7 +154,8 @@ busy x i (q ∷ qs) z h e (inr m) =
 row-busy : (qs : List Quote) (i : ℕ) → allInRange qs ≡ true → i < length (axes qs .expiries) → Busy (axes qs) i qs
 unfolding axes
 row-busy qs i r h =
-    busy (axes qs) i qs (getD (axis (expiries qs)) i nan) (all-housed qs r) (axis-place (expiries qs) i nan (expiries-pos qs r) h) (axis-member (expiries qs) i nan h)
+    busy (axes qs) i qs (getD (axis (expiries qs)) i nan) (all-housed qs r)
+    (axis-place (expiries qs) i nan (expiries-pos qs r) h) (axis-member (expiries qs) i nan h)
 
 -- ---- in a row with a counted cell, the cell that a value is taken from is counted
 pick : (c : ℕ → ℕ) (w j b : ℕ) (l r : Option ℕ) → j < w → b < w → 0 < c b → Left c j l → Right c j w r → (either l r < w) × (0 < c (either l r))
@@ -181,7 +186,9 @@ axes-are : (qs : List Quote) → allInRange qs ≡ true → 0 < length qs → (i
 unfolding axes
 axes-are [] r h = absurd (omega arith)
 axes-are (q ∷ qs) r h =
-    (axis-axis (strikes (q ∷ qs)) (q .strike) (strikes-pos (q ∷ qs) r) (inl refl), axis-axis (expiries (q ∷ qs)) (q .expiry) (expiries-pos (q ∷ qs) r) (inl refl))
+    let k = axis-axis (strikes (q ∷ qs)) (q .strike) (strikes-pos (q ∷ qs) r) (inl refl) in
+    let t = axis-axis (expiries (q ∷ qs)) (q .expiry) (expiries-pos (q ∷ qs) r) (inl refl) in
+    (k, t)
 
 -- ---- all of it
 pub meaning : (qs : List Quote) → allInRange qs ≡ true → Meaning qs

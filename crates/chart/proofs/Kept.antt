@@ -1,88 +1,93 @@
--- The first entries of three columns as a list of quotes. Assumes nothing.
+-- The first entries of the columns as a list of quotes. Assumes nothing.
 use Prim.Native.Nat.{ℕ, zero, suc, _+_, _≤_, _<_}
-use mathlib.Core.Path.{_≡_, refl, _∙_, ap}
-use mathlib.Core.Bool.{Bool, true, false, _&&_}
+use mathlib.Core.Path.{_≡_, refl, sym, _∙_, ap}
+use mathlib.Core.Bool.{Bool, true, false}
 use mathlib.Core.List.{List, [], _∷_, map}
-use native.Mathlib.Omega.{arith}
 use native.Mathlib.Nat.{le-of-suc-le-suc}
-use native.Mathlib.Numerals.{add-one}
-use lib.ListN.{length, take, drop, getD, drop-of-length-le}
-use lib.Seq.{getD-take, length-take-le}
-use lib.Ieee.{Float, nan}
-use Rattle.limits.specs.Ranges.{isStrike, isExpiry, isVolatility}
-use Rattle.chart.specs.Quotes.{Quote, sideBySide, quotes, allInRange}
+use native.Mathlib.Omega.{arith}
+use lib.Dec.{ltb}
+use lib.ListN.{length, take, drop, getD}
+use lib.Seq.{getD-take}
+use borrow.Author.Tests.{ltb-false}
+use lib.Ieee.{nan}
+use Rattle.limits.proofs.Checks.{none-of}
+use Rattle.grid.proofs.Values.{length-values, map-values, values-at, values-end, values-list, values-front}
+use Rattle.chart.specs.Quotes.{Quote, Columns, quoteAt, quotes, isShort, inRange, allInRange}
 
-abbrev pub quoteAt : List Float → List Float → List Float → ℕ → Quote
-quoteAt ks ts vs i = record { strike = getD ks i nan; expiry = getD ts i nan; volatility = getD vs i nan }
+-- where 1 does not hold, each column has 1,024 entries
+pub record Long (c : Columns) : Type 0 where
+  pub strikes : 1024 ≤ length (c .strikes)
+  pub expiries : 1024 ≤ length (c .expiries)
+  pub volatilities : 1024 ≤ length (c .volatilities)
 
-side-at : (ks ts vs : List Float) (i : ℕ) → i < length ks → i < length ts → i < length vs
-    → drop i (sideBySide ks ts vs) ≡ quoteAt ks ts vs i ∷ drop (suc i) (sideBySide ks ts vs)
-unfolding sideBySide
-side-at [] ts vs i a b c = (let z : ⊥ = omega arith in absurd z)
-side-at (k ∷ ks) [] vs i a b c = (let z : ⊥ = omega arith in absurd z)
-side-at (k ∷ ks) (t ∷ ts) [] i a b c = (let z : ⊥ = omega arith in absurd z)
-side-at (k ∷ ks) (t ∷ ts) (v ∷ vs) zero a b c = refl
-side-at (k ∷ ks) (t ∷ ts) (v ∷ vs) (suc i) a b c = side-at ks ts vs i (le-of-suc-le-suc a) (le-of-suc-le-suc b) (le-of-suc-le-suc c)
+pub long : (c : Columns) → isShort c ≡ false → Long c
+unfolding isShort
+long c h =
+    let n = none-of (ltb (length (c .strikes)) 1024) (ltb (length (c .expiries)) 1024 ∷ ltb (length (c .volatilities)) 1024 ∷ []) h in
+    record {
+      strikes = ltb-false (length (c .strikes)) 1024 (n .0);
+      expiries = ltb-false (length (c .expiries)) 1024 (n .1 .0);
+      volatilities = ltb-false (length (c .volatilities)) 1024 (n .1 .1 .0);
+    }
 
-side-length : (ks ts vs : List Float) (n : ℕ) → length ks ≡ n → length ts ≡ n → length vs ≡ n → length (sideBySide ks ts vs) ≡ n
-unfolding sideBySide
-side-length [] ts vs n a b c = a
-side-length (k ∷ ks) [] vs n a b c = (let z : ⊥ = omega arith in absurd z)
-side-length (k ∷ ks) (t ∷ ts) [] n a b c = (let z : ⊥ = omega arith in absurd z)
-side-length (k ∷ ks) (t ∷ ts) (v ∷ vs) zero a b c = (let z : ⊥ = omega arith in absurd z)
-side-length (k ∷ ks) (t ∷ ts) (v ∷ vs) (suc n) a b c = ap suc (side-length ks ts vs n (omega arith) (omega arith) (omega arith))
+module _ (c : Columns) (n : ℕ) where
+  pub length-quotes : length (quotes c n) ≡ n
+  length-quotes = length-values (quoteAt c) n 0
 
-side-strikes : (ks ts vs : List Float) (n : ℕ) → length ks ≡ n → length ts ≡ n → length vs ≡ n → map (λ (q : Quote). q .strike) (sideBySide ks ts vs) ≡ ks
-unfolding sideBySide
-side-strikes [] ts vs n a b c = refl
-side-strikes (k ∷ ks) [] vs n a b c = (let z : ⊥ = omega arith in absurd z)
-side-strikes (k ∷ ks) (t ∷ ts) [] n a b c = (let z : ⊥ = omega arith in absurd z)
-side-strikes (k ∷ ks) (t ∷ ts) (v ∷ vs) zero a b c = (let z : ⊥ = omega arith in absurd z)
-side-strikes (k ∷ ks) (t ∷ ts) (v ∷ vs) (suc n) a b c = ap (λ (l : List Float). k ∷ l) (side-strikes ks ts vs n (omega arith) (omega arith) (omega arith))
+  -- a column that f reads, for any of them
+  pub kept-of : {X : Type 0} (f : Quote → X) (l : List X) (d : X) → ((i : ℕ) → f (quoteAt c i) ≡ getD l i d) → n ≤ length l
+      → map f (quotes c n) ≡ take n l
+  kept-of f l d e h =
+      map-values f (quoteAt c) n 0
+      ∙ values-front l d (λ i. f (quoteAt c i)) n 0 h (λ i. ap (λ (k : ℕ). f (quoteAt c k)) (omega arith) ∙ e i)
 
-side-expiries : (ks ts vs : List Float) (n : ℕ) → length ks ≡ n → length ts ≡ n → length vs ≡ n → map (λ (q : Quote). q .expiry) (sideBySide ks ts vs) ≡ ts
-unfolding sideBySide
-side-expiries [] [] vs n a b c = refl
-side-expiries [] (t ∷ ts) vs n a b c = (let z : ⊥ = omega arith in absurd z)
-side-expiries (k ∷ ks) [] vs n a b c = (let z : ⊥ = omega arith in absurd z)
-side-expiries (k ∷ ks) (t ∷ ts) [] n a b c = (let z : ⊥ = omega arith in absurd z)
-side-expiries (k ∷ ks) (t ∷ ts) (v ∷ vs) zero a b c = (let z : ⊥ = omega arith in absurd z)
-side-expiries (k ∷ ks) (t ∷ ts) (v ∷ vs) (suc n) a b c = ap (λ (l : List Float). t ∷ l) (side-expiries ks ts vs n (omega arith) (omega arith) (omega arith))
+  pub strikes-of : n ≤ length (c .strikes) → map (λ (q : Quote). q .strike) (quotes c n) ≡ take n (c .strikes)
+  strikes-of h = kept-of (λ q. q .strike) (c .strikes) nan (λ i. refl) h
 
-module _ (ks ts vs : List Float) (n : ℕ) (a : n ≤ length ks) (b : n ≤ length ts) (c : n ≤ length vs) where
-  pub length-quotes : length (quotes n ks ts vs) ≡ n
-  length-quotes = side-length (take n ks) (take n ts) (take n vs) n (length-take-le n ks a) (length-take-le n ts b) (length-take-le n vs c)
+  pub expiries-of : n ≤ length (c .expiries) → map (λ (q : Quote). q .expiry) (quotes c n) ≡ take n (c .expiries)
+  expiries-of h = kept-of (λ q. q .expiry) (c .expiries) nan (λ i. refl) h
 
-  pub strikes-of : map (λ (q : Quote). q .strike) (quotes n ks ts vs) ≡ take n ks
-  strikes-of = side-strikes (take n ks) (take n ts) (take n vs) n (length-take-le n ks a) (length-take-le n ts b) (length-take-le n vs c)
+  -- quote by quote
+  pub quotes-at : (i : ℕ) → i < n → drop i (quotes c n) ≡ quoteAt c i ∷ drop (i + 1) (quotes c n)
+  quotes-at i h = values-at (quoteAt c) n i h
 
-  pub expiries-of : map (λ (q : Quote). q .expiry) (quotes n ks ts vs) ≡ take n ts
-  expiries-of = side-expiries (take n ks) (take n ts) (take n vs) n (length-take-le n ks a) (length-take-le n ts b) (length-take-le n vs c)
-
-  pub quotes-at : (i : ℕ) → i < n → drop i (quotes n ks ts vs) ≡ quoteAt ks ts vs i ∷ drop (i + 1) (quotes n ks ts vs)
-  quotes-at i h =
-      let p : i < length (take n ks) = simp length-take-le (omega arith) in
-      let q : i < length (take n ts) = simp length-take-le (omega arith) in
-      let r : i < length (take n vs) = simp length-take-le (omega arith) in
-      side-at (take n ks) (take n ts) (take n vs) i p q r ∙ rw (getD-take n ks i nan h, getD-take n ts i nan h, getD-take n vs i nan h, add-one i)
-
-  pub quotes-end : (i : ℕ) → n ≤ i → drop i (quotes n ks ts vs) ≡ []
-  quotes-end i h =
-      let q : length (quotes n ks ts vs) ≤ i = omega (arith, length-quotes) in
-      drop-of-length-le (quotes n ks ts vs) q
+  pub quotes-end : (i : ℕ) → n ≤ i → drop i (quotes c n) ≡ []
+  quotes-end i h = values-end (quoteAt c) n i h
 
   -- check 2, a quote at a time
-  abbrev good : ℕ → Bool
-  good i = isStrike (getD ks i nan) && isExpiry (getD ts i nan) && isVolatility (getD vs i nan)
-
-  pub range-on : (i : ℕ) (d : Bool) → i < n → good i ≡ true → allInRange (drop i (quotes n ks ts vs)) ≡ d → allInRange (drop (i + 1) (quotes n ks ts vs)) ≡ d
+  pub range-on : (i : ℕ) (d : Bool) → i < n → inRange (quoteAt c i) ≡ true → allInRange (drop i (quotes c n)) ≡ d
+      → allInRange (drop (i + 1) (quotes c n)) ≡ d
   unfolding allInRange
   range-on i d h t e = (rw (quotes-at i h, t) at e)
 
-  pub range-stop : (i : ℕ) (d : Bool) → i < n → good i ≡ false → allInRange (drop i (quotes n ks ts vs)) ≡ d → false ≡ d
+  pub range-stop : (i : ℕ) (d : Bool) → i < n → inRange (quoteAt c i) ≡ false → allInRange (drop i (quotes c n)) ≡ d → false ≡ d
   unfolding allInRange
   range-stop i d h t e = (rw (quotes-at i h, t) at e)
 
-  pub range-end : (i : ℕ) (d : Bool) → n ≤ i → allInRange (drop i (quotes n ks ts vs)) ≡ d → true ≡ d
+  pub range-end : (i : ℕ) (d : Bool) → n ≤ i → allInRange (drop i (quotes c n)) ≡ d → true ≡ d
   unfolding allInRange
   range-end i d h e = (rw (quotes-end i h) at e)
+
+-- ---- columns that hold the quotes of a list hold no others
+getD-map : {X : Type 0} (f : Quote → X) (qs : List Quote) (i : ℕ) (q : Quote) (d : X) → i < length qs → getD (map f qs) i d ≡ f (getD qs i q)
+getD-map f [] i q d h = absurd (omega arith)
+getD-map f (p ∷ qs) zero q d h = refl
+getD-map f (p ∷ qs) (suc i) q d h = getD-map f qs i q d (le-of-suc-le-suc h)
+
+entry-of : {X : Type 0} (f : Quote → X) (l : List X) (d : X) (qs : List Quote) (i : ℕ) (q : Quote) → take (length qs) l ≡ map f qs → i < length qs
+    → getD l i d ≡ f (getD qs i q)
+entry-of f l d qs i q e h = sym (getD-take (length qs) l i d h) ∙ ap (λ (m : List _). getD m i d) e ∙ getD-map f qs i q d h
+
+pub read-back : (c : Columns) (qs : List Quote) → take (length qs) (c .strikes) ≡ map (λ (q : Quote). q .strike) qs
+    → take (length qs) (c .expiries) ≡ map (λ (q : Quote). q .expiry) qs
+    → take (length qs) (c .volatilities) ≡ map (λ (q : Quote). q .volatility) qs → quotes c (length qs) ≡ qs
+read-back c qs ks ts vs = values-list qs (quoteAt c) 0 (quoteAt c 0) (λ i h. ap (quoteAt c) (omega arith) ∙ same i h)
+  where
+    same : (i : ℕ) → i < length qs → quoteAt c i ≡ getD qs i (quoteAt c 0)
+    same i h =
+        λ j.
+        record {
+          strike = entry-of (λ q. q .strike) (c .strikes) nan qs i (quoteAt c 0) ks h j;
+          expiry = entry-of (λ q. q .expiry) (c .expiries) nan qs i (quoteAt c 0) ts h j;
+          volatility = entry-of (λ q. q .volatility) (c .volatilities) nan qs i (quoteAt c 0) vs h j;
+        }

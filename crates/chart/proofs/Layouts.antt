@@ -10,19 +10,9 @@ use lib.ListN.{length, take, drop, getD, length-append, length-drop, List·getD-
 use lib.Seq.{getD-take, getD-drop, getD-append-add, length-take-le}
 use borrow.Author.Tests.{ltb-true, ltb-false}
 use Rattle.grid.specs.Layout.{cellAt, values, partly}
+use Rattle.grid.proofs.Values.{length-values, getD-values}
 use Rattle.chart.specs.Build.{table}
 use Rattle.floats.proofs.Tests.{split}
-
-length-values : {X : Type 0} (f : ℕ → X) (n k : ℕ) → length (values f n k) ≡ n
-unfolding values
-length-values f zero k = refl
-length-values f (suc n) k = ap suc (length-values f n (suc k))
-
-getD-values : {X : Type 0} (f : ℕ → X) (n k j : ℕ) (d : X) → j < n → getD (values f n k) j d ≡ f (k + j)
-unfolding values
-getD-values f zero k j d h = absurd (omega arith)
-getD-values f (suc n) k zero d h = ap f (omega arith)
-getD-values f (suc n) k (suc j) d h = getD-values f n (suc k) j d (le-of-suc-le-suc h) ∙ ap f (omega arith)
 
 -- a part put into a list
 module _ {X : Type 0} (g vs : List X) (a n : ℕ) (l : a + n ≤ length g) (e : length vs ≡ n) where
@@ -33,7 +23,9 @@ module _ {X : Type 0} (g vs : List X) (a n : ℕ) (l : a + n ≤ length g) (e : 
   size = length-take-le a g (omega arith)
 
   put-length : length put ≡ length g
-  put-length = omega (arith, size, length-append (take a g) (vs ++ drop n (drop a g)), length-append vs (drop n (drop a g)), length-drop n (drop a g), length-drop a g)
+  put-length =
+      let rest = drop n (drop a g) in
+      omega (arith, size, length-append (take a g) (vs ++ rest), length-append vs rest, length-drop n (drop a g), length-drop a g)
 
   put-before : (d : X) (p : ℕ) → p < a → getD put p d ≡ getD g p d
   put-before d p h = List·getD-append (take a g) _ d p (omega (arith, size)) ∙ getD-take a g p d h
@@ -47,7 +39,8 @@ module _ {X : Type 0} (g vs : List X) (a n : ℕ) (l : a + n ≤ length g) (e : 
   put-after d p h =
       let q : p ≡ length (take a g) + (length vs + (p - (a + n))) = omega (arith, size) in
       let r : a + (n + (p - (a + n))) ≡ p = omega arith in
-      ap (λ (k : ℕ). getD put k d) q ∙ getD-append-add (take a g) (vs ++ drop n (drop a g)) (length vs + (p - (a + n))) d ∙ getD-append-add vs (drop n (drop a g)) (p - (a + n)) d
+      ap (λ (k : ℕ). getD put k d) q ∙ getD-append-add (take a g) (vs ++ drop n (drop a g)) (length vs + (p - (a + n))) d
+      ∙ getD-append-add vs (drop n (drop a g)) (p - (a + n)) d
       ∙ getD-drop n (drop a g) (p - (a + n)) d ∙ getD-drop a g (n + (p - (a + n))) d ∙ ap (λ (k : ℕ). getD g k d) r
 
 module _ {X : Type 0} (f : ℕ → ℕ → X) (columns : ℕ) (few : columns ≤ 64) (was : List X) where
@@ -65,28 +58,34 @@ module _ {X : Type 0} (f : ℕ → ℕ → X) (columns : ℕ) (few : columns ≤
   table-at (suc r) i j d h k l =
       let s = table-length r (omega arith) in
       let t = table r columns f was in
+      let row = values (f r) columns 0 in
+      let sized = length-values (f r) columns 0 in
       elim (eq-or-lt-of-le (le-of-suc-le-suc k)) [
         | inl e ↦
             let p : cellAt i j ≡ 64 * r + 0 + j = omega arith in
-            rw (p, e) (put-here t (values (f r) columns 0) (64 * r + 0) columns (omega (arith, s)) (length-values (f r) columns 0) d j l ∙ getD-values (f r) columns 0 j d l ∙ ap (f r) (omega arith))
+            rw (p, e)
+            (put-here t row (64 * r + 0) columns (omega (arith, s)) sized d j l ∙ getD-values (f r) columns 0 j d l ∙ ap (f r) (omega arith))
         | inr m ↦
-            put-before t (values (f r) columns 0) (64 * r + 0) columns (omega (arith, s)) (length-values (f r) columns 0) d (cellAt i j) (omega arith) ∙ table-at r i j d (omega arith) m l
+            put-before t row (64 * r + 0) columns (omega (arith, s)) sized d (cellAt i j) (omega arith) ∙ table-at r i j d (omega arith) m l
       ]
 
   -- a place that is no cell
-  pub table-else : (rows p : ℕ) (d : X) → 64 * rows ≤ length was → ((i j : ℕ) → i < rows → j < columns → cellAt i j ≡ p → ⊥) → getD (table rows columns f was) p d ≡ getD was p d
+  pub table-else : (rows p : ℕ) (d : X) → 64 * rows ≤ length was → ((i j : ℕ) → i < rows → j < columns → cellAt i j ≡ p → ⊥)
+      → getD (table rows columns f was) p d ≡ getD was p d
   unfolding table partly
   table-else zero p d h out = refl
   table-else (suc r) p d h out =
       let s = table-length r (omega arith) in
       let t = table r columns f was in
+      let row = values (f r) columns 0 in
+      let sized = length-values (f r) columns 0 in
       let rest = table-else r p d (omega arith) (λ i j a b e. out i j (omega arith) b e) in
       split (ltb p (64 * r + 0))
-      (λ u. put-before t (values (f r) columns 0) (64 * r + 0) columns (omega (arith, s)) (length-values (f r) columns 0) d p (ltb-true p (64 * r + 0) u) ∙ rest)
+      (λ u. put-before t row (64 * r + 0) columns (omega (arith, s)) sized d p (ltb-true p (64 * r + 0) u) ∙ rest)
       (λ u.
       let b = ltb-false p (64 * r + 0) u in
       split (ltb p (64 * r + columns))
       (λ w. let c = ltb-true p (64 * r + columns) w in absurd (out r (p - 64 * r) (omega arith) (omega arith) (omega arith)))
       (λ w.
       let c = ltb-false p (64 * r + columns) w in
-      put-after t (values (f r) columns 0) (64 * r + 0) columns (omega (arith, s)) (length-values (f r) columns 0) d p (omega arith) ∙ rest))
+      put-after t row (64 * r + 0) columns (omega (arith, s)) sized d p (omega arith) ∙ rest))

@@ -8,8 +8,6 @@ use native.Mathlib.Nat.{eq-or-lt-of-le, le-of-suc-le-suc}
 use native.Mathlib.Omega.{arith}
 use native.Mathlib.Numerals.{add-one}
 use lib.Dec.{ltb, eqb}
-use mathlib.Core.List.{List}
-use lib.ListN.{length, getD}
 use lib.Ieee.{Float}
 use borrow.Author.Tests.{lt-ltb, le-ltb, ltb-true, ltb-false, eqb-true, eqb-false}
 use Rattle.floats.specs.Operators.{decimal, _⊘_, if_then_else_}
@@ -17,7 +15,7 @@ use Rattle.chart.specs.Cells.{leftward, rightward, either, source}
 use Rattle.chart.specs.Steps.{held}
 use Rattle.floats.proofs.Tests.{split}
 
-source-own : (c : ℕ → ℕ) (w j : ℕ) → 0 < c j → source c w j ≡ j
+pub source-own : (c : ℕ → ℕ) (w j : ℕ) → 0 < c j → source c w j ≡ j
 unfolding source
 source-own c w j h = rw (lt-ltb 0 (c j) h)
 
@@ -156,9 +154,9 @@ held-same s s' c c' w j l hs hc =
     rw (source-same c c' w j l hc, hs k m, hc k m)
 
 -- the first counted column is a column, and what it holds goes to those before it
-pub first-below : (numbers : List ℕ) (f w : ℕ) → f ≡ source (λ k. getD numbers k 0) (length numbers) 0 → length numbers ≡ w → 0 < w → f < w
-first-below numbers f w e l h = omega (arith, source-below (λ k. getD numbers k 0) (length numbers) 0 (omega arith))
+pub first-below : (c : ℕ → ℕ) (w f : ℕ) → f ≡ source c w 0 → 0 < w → f < w
+first-below c w f e h = rw e (source-below c w 0 h)
 
-pub held-first : (s : ℕ → Float) (c : ℕ → ℕ) (w n f : ℕ) (v : Float) → f ≡ source c n 0 → n ≡ w → v ≡ s f ⊘ decimal (c f) 1 → v ≡ held s c w (0 - 1)
+pub held-first : (s : ℕ → Float) (c : ℕ → ℕ) (w f : ℕ) (v : Float) → f ≡ source c w 0 → v ≡ s f ⊘ decimal (c f) 1 → v ≡ held s c w (0 - 1)
 unfolding held
-held-first s c w n f v e l h = rw (← l, ← e) h
+held-first s c w f v e h = rw (← e) h

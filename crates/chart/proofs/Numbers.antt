@@ -79,12 +79,15 @@ plus-div (fin true m e) (fin t n d) a b = no a
 plus-div (fin false m e) (fin true n d) a b = absurd b
 plus-div (fin false m e) (fin false n d) a b =
     let p : 0 < n = ltb→lt 0 n b in
-    rw (ne-eqb n 0 (λ q. omega arith)) (plus-number (round binary64 false (m * up e * down d) (n * up d * down e)) (plus-round binary64 (m * up e * down d) (n * up d * down e)))
+    let a = m * up e * down d in
+    let b = n * up d * down e in
+    rw (ne-eqb n 0 (λ q. omega arith)) (plus-number (round binary64 false a b) (plus-round binary64 a b))
 
 -- a count, as a float
 whole-positive : (n : ℕ) → 0 < n → n < 2 ^ 53 → T (positive (decimal n 1))
 whole-positive n h k =
-    positive-of-value (round binary64 false n 1) n 1 (round-exact binary64 false n 1 n 1074 (lit< tt) k (lt-of-lt-of-le (mul-lt-mul-of-pos-right k (pow-pos 1074)) (lit≤ tt)) (sym (mul-one (n * 2 ^ 1074)))) h
+    let small = lt-of-lt-of-le (mul-lt-mul-of-pos-right k (pow-pos 1074)) (lit≤ tt) in
+    positive-of-value (round binary64 false n 1) n 1 (round-exact binary64 false n 1 n 1074 (lit< tt) k small (sym (mul-one (n * 2 ^ 1074)))) h
 
 -- the volatilities of a cell added up
 plus-added : (x : Axes) (i j : ℕ) (s : Float) (qs : List Quote) → plus s ≡ true → allInRange qs ≡ true → plus (added s (counted x i j qs)) ≡ true
@@ -92,11 +95,14 @@ unfolding added counted allInRange
 plus-added x i j s [] h r = h
 plus-added x i j s (q ∷ qs) h r =
     let here = and-left (inRange q) (allInRange qs) r in
-    let v = plus-positive (q .volatility) (volatility-positive (q .volatility) (and-right (isStrike (q .strike) && isExpiry (q .expiry)) (isVolatility (q .volatility)) here)) in
+    let w = and-right (isStrike (q .strike) && isExpiry (q .expiry)) (isVolatility (q .volatility)) here in
+    let v = plus-positive (q .volatility) (volatility-positive (q .volatility) w) in
     let rest = and-right (inRange q) (allInRange qs) r in
     split (eqb (place (x .expiries) (q .expiry)) i && eqb (place (x .strikes) (q .strike)) j)
     (λ t. rw t (plus-added x i j _ qs (plus-add s (q .volatility) h v) rest)) (λ t. rw t (plus-added x i j s qs h rest))
 
-pub mean-number : (x : Axes) (i j n : ℕ) (qs : List Quote) → allInRange qs ≡ true → 0 < n → n ≤ 1024 → isNan (added (decimal 0 1) (counted x i j qs) ⊘ decimal n 1) ≡ false
+pub mean-number : (x : Axes) (i j n : ℕ) (qs : List Quote) → allInRange qs ≡ true → 0 < n → n ≤ 1024
+    → isNan (added (decimal 0 1) (counted x i j qs) ⊘ decimal n 1) ≡ false
 mean-number x i j n qs r h k =
-    plus-div (added (decimal 0 1) (counted x i j qs)) (decimal n 1) (plus-added x i j (decimal 0 1) qs (plus-round binary64 0 1) r) (whole-positive n h (lt-of-le-of-lt k (lit< tt)))
+    let sum = plus-added x i j (decimal 0 1) qs (plus-round binary64 0 1) r in
+    plus-div (added (decimal 0 1) (counted x i j qs)) (decimal n 1) sum (whole-positive n h (lt-of-le-of-lt k (lit< tt)))

@@ -3,7 +3,8 @@ use Prim.Native.Nat.{ℕ, zero, suc, _*_, _≤_, _<_}
 use mathlib.Core.Path.{_≡_, refl, sym, subst}
 use mathlib.Core.Bool.{true, false}
 use mathlib.Core.Logic.{_⊎_, inl, inr, ⊎-map}
-use mathlib.Core.List.{List, [], _∷_, _++_, append-nil, List·Permᴰ, List·Permᴰ·cons, List·Permᴰ·swap, List·Permᴰ·trans, Permᴰ·refl, Permᴰ·symm, Permᴰ·append-right, Permᴰ·middle}
+use mathlib.Core.List.{List, [], _∷_, _++_, append-nil, List·Permᴰ, List·Permᴰ·cons, List·Permᴰ·swap, List·Permᴰ·trans}
+use mathlib.Core.List.{Permᴰ·refl, Permᴰ·symm, Permᴰ·append-right, Permᴰ·middle}
 use native.Mathlib.Nat.{le-of-suc-le-suc}
 use native.Mathlib.Omega.{arith}
 use lib.Dec.{T}

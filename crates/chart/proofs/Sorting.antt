@@ -5,12 +5,13 @@ use mathlib.Core.Bool.{true, false}
 use mathlib.Core.List.{List, [], _∷_, _++_, append-assoc, append-nil}
 use native.Mathlib.Omega.{arith}
 use native.Mathlib.Numerals.{add-one}
-use lib.ListN.{length, take, drop, getD, set, drop-of-length-le}
-use lib.Seq.{drop-cons, getD-take, length-take-le, take-suc-set, take-set-lt, drop-set-lt, take-take, take-at}
+use lib.ListN.{length, take, drop, getD, set}
+use lib.Seq.{length-take-le, take-suc-set, take-set-lt, drop-set-lt, take-take, take-at}
 use lib.Ieee.{Float, nan}
 use Rattle.floats.specs.Operators.{_≺_, _⊖_}
 use Rattle.grid.specs.Search.{firstWhere}
 use Rattle.grid.proofs.First.{first-most}
+use Rattle.grid.proofs.Fronts.{front-at, front-end}
 use Rattle.chart.specs.Axis.{insert, sortedInto, keptAfter, thinned, hair}
 use Rattle.floats.proofs.Tests.{split}
 
@@ -47,15 +48,11 @@ insert-front a n x h =
 pub sort-step : (ys xs : List Float) (i n : ℕ) → i < n → n ≤ length xs
     → sortedInto (insert (getD xs i nan) ys) (drop (i + 1) (take n xs)) ≡ sortedInto ys (drop i (take n xs))
 unfolding sortedInto
-sort-step ys xs i n h l =
-    let u : i < length (take n xs) = simp length-take-le (omega arith) in
-    rw (add-one, drop-cons (take n xs) i nan u, getD-take)
+sort-step ys xs i n h l = rw (front-at xs n i l nan h)
 
 pub sort-end : (ys xs : List Float) (i n : ℕ) → n ≤ i → n ≤ length xs → sortedInto ys (drop i (take n xs)) ≡ ys
 unfolding sortedInto
-sort-end ys xs i n h k =
-    let q : length (take n xs) ≤ i = simp length-take-le (omega arith) in
-    rw (drop-of-length-le (take n xs) q)
+sort-end ys xs i n h k = rw (front-end xs n i k h)
 
 pub thin-start : (a : List Float) (n : ℕ) → 0 < n → n ≤ length a → take 1 a ++ keptAfter (getD a 0 nan) (drop 1 (take n a)) ≡ thinned (take n a)
 unfolding thinned keptAfter
@@ -64,14 +61,9 @@ thin-start (y ∷ ys) zero h k = (let z : ⊥ = omega arith in absurd z)
 thin-start (y ∷ ys) (suc n) h k = refl
 
 module _ (a : List Float) (i n : ℕ) (last : Float) (h : i < n) (k : n ≤ length a) where
-  at-i : drop i (take n a) ≡ getD a i nan ∷ drop (suc i) (take n a)
-  at-i =
-      let u : i < length (take n a) = simp length-take-le (omega arith) in
-      rw (drop-cons (take n a) i nan u, getD-take)
-
   pub thin-drop : getD a i nan ⊖ last ≺ hair ≡ true → keptAfter last (drop (i + 1) (take n a)) ≡ keptAfter last (drop i (take n a))
   unfolding keptAfter
-  thin-drop e = rw (at-i, e, add-one)
+  thin-drop e = rw (front-at a n i k nan h, e)
 
   pub thin-keep : (w : ℕ) → w ≤ i → getD a i nan ⊖ last ≺ hair ≡ false
       → take (w + 1) (set a w (getD a i nan)) ++ keptAfter (getD a i nan) (drop (i + 1) (take n (set a w (getD a i nan))))
@@ -81,10 +73,9 @@ module _ (a : List Float) (i n : ℕ) (last : Float) (h : i < n) (k : n ≤ leng
       let q : w < length a = omega arith in
       let r : w < n = omega arith in
       let s : w < suc i = omega arith in
-      rw (add-one w, add-one i, take-suc-set, take-set-lt, drop-set-lt (suc i) (take n a) w (getD a i nan) s, at-i, e, append-assoc)
+      let p = front-at a n i k nan h in
+      rw (p, e, add-one w, add-one i, take-suc-set, take-set-lt, drop-set-lt (suc i) (take n a) w (getD a i nan) s, append-assoc)
 
 pub thin-end : (a : List Float) (i n w : ℕ) (last : Float) → n ≤ i → n ≤ length a → take w a ++ keptAfter last (drop i (take n a)) ≡ take w a
 unfolding keptAfter
-thin-end a i n w last h k =
-    let q : length (take n a) ≤ i = simp length-take-le (omega arith) in
-    rw (drop-of-length-le (take n a) q, append-nil)
+thin-end a i n w last h k = rw (front-end a n i k h, append-nil)

@@ -5,7 +5,8 @@ use mathlib.Core.Path.{_≡_, refl, sym, ap, _∙_, subst}
 use mathlib.Core.Bool.{true, false}
 use mathlib.Core.Logic.{_⊎_, inl, inr}
 use mathlib.Core.List.{List, [], _∷_}
-use native.Mathlib.Nat.{mul-right-comm, mul-le-mul-right, le-of-eq, le-of-suc-le-suc, mul-pos, mul-lt-mul-of-pos-right, lt-of-mul-lt-mul-right, lt-of-le-of-lt, lt-of-lt-of-le}
+use native.Mathlib.Nat.{mul-right-comm, mul-le-mul-right, mul-pos, mul-lt-mul-of-pos-right, lt-of-mul-lt-mul-right}
+use native.Mathlib.Nat.{le-of-eq, le-of-suc-le-suc, lt-of-le-of-lt, lt-of-lt-of-le}
 use native.Mathlib.Omega.{arith}
 use lib.Dec.{T}
 use lib.ListN.{length, getD}

@@ -1,16 +1,15 @@
 -- Document 01: "Build checks 1, 2, 15, 16, 17. .. Build returns both axis lengths and writes axis entries, cells and counts in use, nothing else."
 use Prim.Native.Nat.{ℕ, zero, suc}
 use mathlib.Core.Path.{_≡_}
-use mathlib.Core.Bool.{not, _||_}
+use mathlib.Core.Bool.{Bool, not, _||_}
 use mathlib.Core.List.{List, _++_}
 use lib.Dec.{ltb}
 use lib.ListN.{length, drop}
 use lib.Ieee.{Float}
 use Rattle.limits.specs.Checks.{first, none}
-use Rattle.limits.specs.Outcome.{Outcome, done, refused}
-use Rattle.grid.specs.Answers.{answered, unlessRefused}
+use Rattle.limits.specs.Outcome.{Outcome, done, refused, answered, unlessRefused}
 use Rattle.grid.specs.Layout.{cellAt, values, partly}
-use Rattle.chart.specs.Quotes.{quotes, allInRange}
+use Rattle.chart.specs.Quotes.{Quote, Columns, quotes, isShort, allInRange}
 use Rattle.chart.specs.Cells.{Axes, axes, count, cell}
 use Rattle.chart.specs.declared.Built.{Built}
 use Rattle.chart.specs.declared.Built.the-variants.{Surface, Refused}
@@ -19,19 +18,39 @@ use Rattle.chart.specs.declared.Built.the-variants.{Surface, Refused}
 abbrev pub front : List Float → List Float → List Float
 front xs was = xs ++ drop (length xs) was
 
+-- The lent surface: both axes, the cells, their counts.
+pub record Buffers : Type 0 where
+  pub strikes : List Float
+  pub expiries : List Float
+  pub grid : List Float
+  pub counts : List ℕ
+
+abbrev pub buffersOf : List Float → List Float → List Float → List ℕ → Buffers
+buffersOf strikes expiries grid counts = record { strikes = strikes; expiries = expiries; grid = grid; counts = counts }
+
 -- f i j at 64 × i + j for each row i below `rows` and column j below `columns`, and the list as it was elsewhere.
 unfoldable pub table : {X : Type 0} → ℕ → ℕ → (ℕ → ℕ → X) → List X → List X
 table zero columns f was = was
 table (suc i) columns f was = partly (λ row. values (f i) columns 0) (cellAt i 0) columns (table i columns f was)
 
--- The checks of a build: of the three columns and how many quotes they keep, of the lengths of the four buffers, and of those that the axes would have.
-unfoldable pub refusal : List Float → List Float → List Float → ℕ → ℕ → ℕ → ℕ → ℕ → ℕ → ℕ → ℕ
-refusal ks ts vs kept strikeAxis expiryAxis grid counts strikes expiries =
-    first (ltb (length ks) 1024 || ltb (length ts) 1024 || ltb (length vs) 1024) 1
-    (first (ltb 1024 kept || not (allInRange (quotes kept ks ts vs))) 2
-    (first (ltb strikeAxis 64 || ltb expiryAxis 32 || ltb grid 2048 || ltb counts 2048) 15
-    (first (ltb 64 strikes) 16
-    (first (ltb 32 expiries) 17
+-- 2: more quotes than a column can keep, or one out of range.
+unfoldable pub isWrong : Columns → ℕ → Bool
+isWrong c kept = ltb 1024 kept || not (allInRange (quotes c kept))
+
+-- 15: a buffer is too short for the largest surface.
+unfoldable pub isSmall : Buffers → Bool
+isSmall s =
+    ltb (length (s .strikes)) 64 || ltb (length (s .expiries)) 32 || ltb (length (s .grid)) 2048 || ltb (length (s .counts)) 2048
+
+-- The checks of a build of the columns' first `kept` quotes.
+unfoldable pub refusal : Columns → ℕ → Buffers → ℕ
+refusal c kept s =
+    let x = axes (quotes c kept) in
+    first (isShort c) 1
+    (first (isWrong c kept) 2
+    (first (isSmall s) 15
+    (first (ltb 64 (length (x .strikes))) 16
+    (first (ltb 32 (length (x .expiries))) 17
     none))))
 
 -- What an accepted build returns: both axis lengths.
@@ -50,20 +69,24 @@ abbrev pub outcome : Built → Outcome Lengths
 outcome (Surface strikes expiries) = done (record { strikes = strikes; expiries = expiries })
 outcome (Refused number) = refused number (record { strikes = 0; expiries = 0 })
 
--- What a call of `build` does with the quotes of its columns. `number` is what its checks give; each lent buffer stands as at entry and at exit.
-module _ (ks ts vs : List Float) (kept : ℕ) where
-  abbrev pub surface : Axes
-  surface = axes (quotes kept ks ts vs)
+-- What an accepted build of the quotes makes of the lent buffers.
+abbrev pub surfaceOf : List Quote → Buffers → Buffers
+surfaceOf qs s =
+    let x = axes qs in
+    let rows = length (x .expiries) in
+    let columns = length (x .strikes) in
+    record {
+      strikes = front (x .strikes) (s .strikes);
+      expiries = front (x .expiries) (s .expiries);
+      grid = table rows columns (cell x qs) (s .grid);
+      counts = table rows columns (λ i j. count x i j qs) (s .counts);
+    }
 
-  abbrev pub numberOf : List Float → List Float → List Float → List ℕ → ℕ
-  numberOf strikeAxis expiryAxis grid counts =
-      refusal ks ts vs kept (length strikeAxis) (length expiryAxis) (length grid) (length counts) (length (surface .strikes)) (length (surface .expiries))
+-- What a build leaves whose checks give this number: s are the buffers at entry, s' at exit.
+pub record BuildsTo (number : ℕ) (qs : List Quote) (s : Buffers) (answer : Built) (s' : Buffers) : Type 0 where
+  pub answers : outcome answer ≡ answered number noLengths (lengths (axes qs))
+  pub buffers : s' ≡ unlessRefused number (surfaceOf qs s) s
 
-  pub record Builds (strikeAxis expiryAxis grid : List Float) (counts : List ℕ) (answer : Built) (strikeAxis' expiryAxis' grid' : List Float) (counts' : List ℕ) : Type 0 where
-    pub answers : outcome answer ≡ answered (numberOf strikeAxis expiryAxis grid counts) noLengths (lengths surface)
-    pub strikes : strikeAxis' ≡ unlessRefused (numberOf strikeAxis expiryAxis grid counts) (front (surface .strikes) strikeAxis) strikeAxis
-    pub expiries : expiryAxis' ≡ unlessRefused (numberOf strikeAxis expiryAxis grid counts) (front (surface .expiries) expiryAxis) expiryAxis
-    pub cells : grid' ≡ unlessRefused (numberOf strikeAxis expiryAxis grid counts)
-        (table (length (surface .expiries)) (length (surface .strikes)) (cell surface (quotes kept ks ts vs)) grid) grid
-    pub counted : counts' ≡ unlessRefused (numberOf strikeAxis expiryAxis grid counts)
-        (table (length (surface .expiries)) (length (surface .strikes)) (λ i j. count surface i j (quotes kept ks ts vs)) counts) counts
+-- A build of the columns' first `kept` quotes.
+abbrev pub Builds : Columns → ℕ → Buffers → Built → Buffers → Type 0
+Builds c kept s answer s' = BuildsTo (refusal c kept s) (quotes c kept) s answer s'

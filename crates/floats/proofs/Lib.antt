@@ -1,6 +1,6 @@
 pub mod Tests
-pub mod Signs
 pub mod Rounding
+pub mod Signs
 pub mod Order
 pub mod Products
 pub mod Whole

@@ -11,11 +11,12 @@ use lib.Pow.{pow-pos}
 use borrow.Author.Tests.{ltb-true, lt-ltb}
 use lib.Ieee.{Float, nan, inf, fin, binary64, up, down, lt, le, eq, sub, mul, round, units, odd, isNan, low, prec, emax, fits}
 use lib.Ieee.Fits.{down-pos, round-is}
-use lib.Ieee.Exact.{HasValue, round-exact}
+use lib.Ieee.Exact.{HasValue}
 use lib.Ieee.Order.{le-of-values}
 use lib.Ieee.Positive.{first-pos, through}
 use Rattle.floats.specs.Operators.{_≺_, _≼_, _⊖_, _⊗_, if_then_else_}
 use Rattle.floats.specs.Values.{magnitude, minimum, negative}
+use Rattle.floats.proofs.Rounding.{zero-rounds}
 use Rattle.floats.proofs.Tests.{by, clash, or-le}
 use Rattle.floats.proofs.Signs.{O, not-above-round}
 use Rattle.floats.proofs.Short.{AtMost, most-round, own}
@@ -75,9 +76,6 @@ round-number s n d = rw (round-is binary64 s n d) (signed-units s _ _ .1)
 
 pub plain-round : (n d : ℕ) → Plain (round binary64 false n d)
 plain-round n d = plain-of (round binary64 false n d) (round-number false n d) (negative-round false n d)
-
-zero-rounds : (s : Bool) (n d : ℕ) → 0 < d → n ≡ 0 → HasValue (round binary64 s n d) s 0 d
-zero-rounds s n d D z = rw z (round-exact binary64 s 0 d 0 0 D (lit< tt) (lit< tt) (zero-mul (2 ^ low binary64) ∙ sym (zero-mul d)))
 
 not-below-value : (x : Float) (c : ℕ) → 0 < c → HasValue x true 0 c → NotBelow x
 not-below-value nan c C h = h

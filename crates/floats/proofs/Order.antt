@@ -80,11 +80,13 @@ add-is f (fin false m e) (fin false n d) p q = refl
 grow : (X dx Y dy Z dz W dw : ℕ) → X * dz ≤ Z * dx → Y * dw ≤ W * dy → (X * dy + Y * dx) * (dz * dw) ≤ (Z * dw + W * dz) * (dx * dy)
 grow X dx Y dy Z dz W dw h k = omega (arith, mul-le-mul-right (dy * dw) h, mul-le-mul-right (dx * dz) k)
 
-pub add-mono : (f : Format) (x x' y y' : Float) → T (positive x) → T (positive x') → T (positive y) → T (positive y') → T (x ≼ x') → T (y ≼ y') → T (add f x y ≼ add f x' y')
+pub add-mono : (f : Format) (x x' y y' : Float) → T (positive x) → T (positive x') → T (positive y) → T (positive y') → T (x ≼ x') → T (y ≼ y')
+    → T (add f x y ≼ add f x' y')
 add-mono f x x' y y' p p' q q' h k =
     subst (λ (z : Float). T (z ≼ add f x' y')) (sym (add-is f x y p q))
     (subst (λ (z : Float). T (round f false (num x * den y + num y * den x) (den x * den y) ≼ z)) (sym (add-is f x' y' p' q'))
-    (round-mono f (num x * den y + num y * den x) (den x * den y) (num x' * den y' + num y' * den x') (den x' * den y') (mul-pos (den-pos x) (den-pos y)) (mul-pos (den-pos x') (den-pos y'))
+    (round-mono f (num x * den y + num y * den x) (den x * den y) (num x' * den y' + num y' * den x') (den x' * den y') (mul-pos (den-pos x) (den-pos y))
+    (mul-pos (den-pos x') (den-pos y'))
     (grow (num x) (den x) (num y) (den y) (num x') (den x') (num y') (den y') (le→cross x x' p p' h) (le→cross y y' q q' k))))
 
 -- ---- the difference, y at most x: x - y and |y - x| are the same rounding of the same fraction
@@ -96,7 +98,8 @@ sum-down f a b c h = go (ltb a b) (ltb→lt a b)
     go true k = absurd (omega (arith, k tt))
     go false k = refl
 
-opened : (f : Format) (m : ℕ) (e : ℤ) (n : ℕ) (d : ℤ) → sub f (fin false m e) (fin false n d) ≡ sum f false (m * up e * down d) true (n * up d * down e) (down e * down d)
+opened : (f : Format) (m : ℕ) (e : ℤ) (n : ℕ) (d : ℤ) → sub f (fin false m e) (fin false n d)
+    ≡ sum f false (m * up e * down d) true (n * up d * down e) (down e * down d)
 unfolding sub
 opened f m e n d = refl
 
@@ -109,7 +112,8 @@ sub-down (fin false m e) (inf t) p q h = absurd q
 sub-down (fin false m e) (fin true n d) p q h = absurd q
 sub-down (fin false m e) (fin false n d) p q h = opened binary64 m e n d ∙ sum-down binary64 _ _ _ h
 
-pub sub-up : (x y : Float) → T (positive x) → T (positive y) → Under y x → magnitude (y ⊖ x) ≡ round binary64 false (num x * den y - num y * den x) (den x * den y)
+pub sub-up : (x y : Float) → T (positive x) → T (positive y) → Under y x → magnitude (y ⊖ x)
+    ≡ round binary64 false (num x * den y - num y * den x) (den x * den y)
 sub-up nan y p q h = absurd p
 sub-up (inf s) y p q h = absurd p
 sub-up (fin true m e) y p q h = absurd p

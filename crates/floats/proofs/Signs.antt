@@ -1,21 +1,22 @@
 -- The tests against 0.0 and infinity, read as facts about a float's shape. Assumes nothing.
 use mathlib.Core.Path.{_≡_, refl, sym, ap, _∙_, subst}
 use Prim.Native.Nat.{ℕ, zero, suc, _+_, _-_, _*_, _^_, _≤_, _<_}
-use native.Mathlib.Nat.{mul-one, one-mul, zero-mul, mul-pos, le-refl, zero-lt-suc, lt-irrefl}
+use native.Mathlib.Nat.{add-zero, mul-one, one-mul, zero-mul, mul-pos, le-refl, zero-lt-suc, lt-irrefl}
 use native.Mathlib.Omega.{arith}
 use mathlib.Core.Bool.{Bool, true, false, _&&_, _||_, cond, Bool·beq, true≢false, or-true}
 use lib.IntN.{ℤ, pos, negsuc}
 use lib.Dec.{T, ltb, eqb, lit<, eqb→eq, eqb·suc-zero, ltb→lt, lt→ltb}
 use lib.Pow.{pow-lt}
 use borrow.Author.Tests.{ltb-true, ltb-false, eqb-true, eq-eqb, le-ltb, lt-ltb}
-use lib.Ieee.{Float, nan, inf, fin, binary64, up, down, neg, lt, eq, ne, sub, sum, round, fits, low, prec, emax, odd, units, div, isNan}
+use lib.Ieee.{Float, nan, inf, fin, binary64, up, down, neg, lt, eq, ne, sub, round, fits, low, prec, emax, odd, units, div, isNan}
 use lib.Ieee.Fits.{up-pos, down-pos, round-is}
 use lib.Ieee.Compare.{nan-differs}
-use lib.Ieee.Exact.{HasValue, round-exact}
+use lib.Ieee.Exact.{HasValue}
 use lib.Ieee.Positive.{first-pos, positive, above}
 use Rattle.floats.specs.Operators.{decimal, _≺_, _⊖_, _⊘_}
 use Rattle.floats.specs.Values.{magnitude, negative, finite}
 use Rattle.floats.proofs.Tests.{and-left}
+use Rattle.floats.proofs.Rounding.{zero-rounds}
 
 -- 0.0 and 1.0
 abbrev pub O : Float
@@ -50,7 +51,9 @@ zero-magnitude (fin s zero (pos zero)) k h = refl
 zero-magnitude (fin s zero (pos (suc n))) k h = absurd (power-not-one n (sym (mul-one (2 ^ suc n)) ∙ eqb→eq (2 ^ suc n * 1) 1 k))
 zero-magnitude (fin s zero (negsuc n)) k h = absurd (power-not-one n (sym (one-mul (2 ^ suc n)) ∙ eqb→eq (1 * 2 ^ suc n) 1 k))
 zero-magnitude (fin s (suc m) e) k h =
-    absurd (never-zero m (up e) (up-pos e) (eqb-true (suc m * up e * 1) (0 * down e) (and-left (eqb (suc m * up e * 1) (0 * down e)) (Bool·beq s false || eqb (suc m * up e * 1) 0) h) ∙ zero-mul (down e)))
+    absurd (never-zero m (up e) (up-pos e)
+    (eqb-true (suc m * up e * 1) (0 * down e) (and-left (eqb (suc m * up e * 1) (0 * down e)) (Bool·beq s false || eqb (suc m * up e * 1) 0) h)
+    ∙ zero-mul (down e)))
 
 pub other-magnitude : (x : Float) → x ≺ O ≡ false → eq x O ≡ false → x ≡ magnitude x
 unfolding lt eq magnitude round
@@ -82,7 +85,7 @@ zero-of-value (fin t m e) s c C h = go (m * up e) (is-zero (m * up e) c C (h .1 
 
 round-zero : (s : Bool) (n c : ℕ) → 0 < c → n ≡ 0 → eq (round binary64 s n c) O ≡ true
 round-zero s n c C z =
-    rw z (zero-of-value (round binary64 s 0 c) s c C (round-exact binary64 s 0 c 0 0 C (lit< tt) (lit< tt) (zero-mul (2 ^ low binary64) ∙ sym (zero-mul c))))
+    zero-of-value (round binary64 s n c) s c C (zero-rounds s n c C z)
 
 no-difference : (a c : ℕ) (s t : Bool) → 0 < c → eq (cond (ltb a a) (round binary64 s (a - a) c) (round binary64 t (a - a) c)) O ≡ true
 no-difference a c s t C = simp (le-ltb a a (le-refl a)) (round-zero t (a - a) c C (omega arith))
@@ -92,7 +95,8 @@ unfolding sub
 finite-is nan = unfold eq in refl
 finite-is (inf true) = unfold eq in refl
 finite-is (inf false) = unfold eq in refl
-finite-is (fin true m e) = no-difference (m * up e * down e) (down e * down e) false (ltb (m * up e * down e) (m * up e * down e)) (mul-pos (down-pos e) (down-pos e))
+finite-is (fin true m e) =
+    no-difference (m * up e * down e) (down e * down e) false (ltb (m * up e * down e) (m * up e * down e)) (mul-pos (down-pos e) (down-pos e))
 finite-is (fin false m e) = no-difference (m * up e * down e) (down e * down e) true false (mul-pos (down-pos e) (down-pos e))
 
 -- ---- the sign of a rounding
@@ -198,7 +202,9 @@ lt-of-above nan p = absurd p
 lt-of-above (inf true) p = absurd p
 lt-of-above (inf false) p = refl
 lt-of-above (fin true m e) p = absurd p
-lt-of-above (fin false m e) p = lt-ltb (0 * down e) (m * up e * 1) (let a : 0 < m * up e * 1 = mul-pos (mul-pos (ltb→lt 0 m p) (up-pos e)) (lit< tt) in let z = zero-mul (down e) in omega arith)
+lt-of-above (fin false m e) p =
+    lt-ltb (0 * down e) (m * up e * 1)
+    (let a : 0 < m * up e * 1 = mul-pos (mul-pos (ltb→lt 0 m p) (up-pos e)) (lit< tt) in let z = zero-mul (down e) in omega arith)
 
 pub positive-of-neg : (x : Float) → finite x ≡ true → x ≺ O ≡ true → T (positive (magnitude x))
 unfolding lt round magnitude
@@ -224,6 +230,15 @@ not-both-signs (inf true) h k = true≢false (sym h)
 not-both-signs (inf false) h k = true≢false (sym k)
 not-both-signs (fin true m e) h k = true≢false (sym h)
 not-both-signs (fin false m e) h k = below-zero (m * up e * 1) (down e) k
+
+pub neg-below : (x : Float) → neg x ≺ O ≡ O ≺ x
+unfolding neg lt round
+neg-below nan = refl
+neg-below (inf s) = refl
+neg-below (fin true m e) = le-ltb (m * up e * 1) (0 * down e) (let z = zero-mul (down e) in omega arith)
+neg-below (fin false m e) =
+    ap (λ (x : ℕ). ltb 0 (m * up e * 1 + x)) (zero-mul (down e)) ∙ ap (ltb 0) (add-zero (m * up e * 1))
+    ∙ ap (λ (x : ℕ). ltb x (m * up e * 1)) (sym (zero-mul (down e)))
 
 -- infinity as the quotient 1.0 / 0.0
 abbrev pub infinity : Float
@@ -274,8 +289,16 @@ is-zero (inf s) l = true≢false (sym l)
 is-zero (fin s zero e) l = tt
 is-zero (fin s (suc m) e) l =
     let a : 0 < suc m * up e = mul-pos (zero-lt-suc m) (up-pos e) in
-    let b = eqb-true (suc m * up e * 1) (0 * 1 * down e) (and-left (eqb (suc m * up e * 1) (0 * 1 * down e)) (Bool·beq s false || eqb (suc m * up e * 1) 0) l) in
+    let b = eqb-true (suc m * up e * 1) (0 * 1 * down e)
+    (and-left (eqb (suc m * up e * 1) (0 * 1 * down e)) (Bool·beq s false || eqb (suc m * up e * 1) 0) l) in
     lt-irrefl 0 (omega arith)
+
+pub positive-not-zero : (x : Float) → T (positive x) → Zero x → ⊥
+positive-not-zero nan p z = p
+positive-not-zero (inf s) p z = p
+positive-not-zero (fin true m e) p z = p
+positive-not-zero (fin false zero e) p z = p
+positive-not-zero (fin false (suc m) e) p z = z
 
 pub is-infinity : (v : Float) → eq v infinity ≡ true → v ≡ inf false
 unfolding eq round div

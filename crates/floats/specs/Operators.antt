@@ -1,8 +1,8 @@
 -- Document 01, opening: "All floats are binary64 of IEEE 754, each operation rounded once; a decimal constant is the nearest such float."
 -- The operators have symbols of their own: `+`, `<`, `≤` and `≡` keep the library's meaning everywhere.
 use Prim.Native.Nat.{ℕ}
-use mathlib.Core.Bool.{Bool, true, false, cond}
-use lib.Ieee.{Float, binary64, round, add, sub, mul, div, neg, lt, le}
+use mathlib.Core.Bool.{Bool, false, cond}
+use lib.Ieee.{Float, binary64, round, add, sub, mul, div, lt, le}
 
 -- The float nearest to n / d, a tie going to the even one: what a decimal constant means.
 abbrev pub decimal : ℕ → ℕ → Float

@@ -1,7 +1,5 @@
 -- Magnitude, minimum, sign and finiteness of a float. `finite` is the library's: neither an infinity nor a not-a-number.
-use Prim.Native.Nat.{ℕ}
-use mathlib.Core.Bool.{Bool, true, false}
-use lib.IntN.{pos}
+use mathlib.Core.Bool.{Bool, false}
 use lib.Ieee.{Float, nan, inf, fin, neg, isNan}
 pub use lib.Ieee.Scale.{finite}
 use Rattle.floats.specs.Operators.{_≺_, if_then_else_}

@@ -4,18 +4,18 @@ use lib.IntN.{ℤ, pos, negℤ, natAbs, _-ℤ_}
 use lib.Ieee.{Float, nan, inf, fin, up, down}
 use Rattle.floats.specs.Operators.{if_then_else_}
 
--- The magnitude of x is `units x` over 2^1074, the least float above 0.
-abbrev pub units : Float → ℕ
-units nan = 0
-units (inf s) = 0
-units (fin s m e) = m * up e * 2 ^ 1074 / down e
+-- The magnitude of x is `unitsOf x` over 2^1074, the least float above 0.
+abbrev pub unitsOf : Float → ℕ
+unitsOf nan = 0
+unitsOf (inf s) = 0
+unitsOf (fin s m e) = m * up e * 2 ^ 1074 / down e
 
--- x is `whole x` over 2^1074.
-abbrev pub whole : Float → ℤ
-whole nan = pos 0
-whole (inf s) = pos 0
-whole (fin s m e) = if s then negℤ (pos (units (fin s m e))) else pos (units (fin s m e))
+-- x is `wholeOf x` over 2^1074.
+abbrev pub wholeOf : Float → ℤ
+wholeOf nan = pos 0
+wholeOf (inf s) = pos 0
+wholeOf (fin s m e) = if s then negℤ (pos (unitsOf (fin s m e))) else pos (unitsOf (fin s m e))
 
 -- The exact distance of x and y, over 2^1074.
 unfoldable pub distance : Float → Float → ℕ
-distance x y = natAbs (whole x -ℤ whole y)
+distance x y = natAbs (wholeOf x -ℤ wholeOf y)

@@ -145,9 +145,15 @@ float-is i kind xs d h e =
 pub frame-read : (f : Frame) → allFit (floatsOf f) ≡ true → frameOf (encode f) ≡ f
 unfolding encode floatsOf frameOf
 frame-read (Open x y) e = simp (frame-is, float-is 0 0x10 (x ∷ y ∷ []) nan (lit< tt) e, float-is 1 0x10 (x ∷ y ∷ []) nan (lit< tt) e)
-frame-read (Call x y z) e = simp (frame-is, float-is 0 0x11 (x ∷ y ∷ z ∷ []) nan (lit< tt) e, float-is 1 0x11 (x ∷ y ∷ z ∷ []) nan (lit< tt) e, float-is 2 0x11 (x ∷ y ∷ z ∷ []) nan (lit< tt) e)
-frame-read (Put x y z) e = simp (frame-is, float-is 0 0x12 (x ∷ y ∷ z ∷ []) nan (lit< tt) e, float-is 1 0x12 (x ∷ y ∷ z ∷ []) nan (lit< tt) e, float-is 2 0x12 (x ∷ y ∷ z ∷ []) nan (lit< tt) e)
-frame-read (Vol x y z) e = simp (frame-is, float-is 0 0x13 (x ∷ y ∷ z ∷ []) nan (lit< tt) e, float-is 1 0x13 (x ∷ y ∷ z ∷ []) nan (lit< tt) e, float-is 2 0x13 (x ∷ y ∷ z ∷ []) nan (lit< tt) e)
+frame-read (Call x y z) e =
+    let l = x ∷ y ∷ z ∷ [] in
+    simp (frame-is, float-is 0 0x11 l nan (lit< tt) e, float-is 1 0x11 l nan (lit< tt) e, float-is 2 0x11 l nan (lit< tt) e)
+frame-read (Put x y z) e =
+    let l = x ∷ y ∷ z ∷ [] in
+    simp (frame-is, float-is 0 0x12 l nan (lit< tt) e, float-is 1 0x12 l nan (lit< tt) e, float-is 2 0x12 l nan (lit< tt) e)
+frame-read (Vol x y z) e =
+    let l = x ∷ y ∷ z ∷ [] in
+    simp (frame-is, float-is 0 0x13 l nan (lit< tt) e, float-is 1 0x13 l nan (lit< tt) e, float-is 2 0x13 l nan (lit< tt) e)
 frame-read (Read x y) e = simp (frame-is, float-is 0 0x20 (x ∷ y ∷ []) nan (lit< tt) e, float-is 1 0x20 (x ∷ y ∷ []) nan (lit< tt) e)
 frame-read Bad e = wrong-length [] (λ z. omega arith) (λ z. omega arith)
 

@@ -1,6 +1,6 @@
 -- The claims of specs/Claims.antt. Assumes nothing.
 use Rattle.frames.specs.Claims.{Streamed, Split, Returns}
-use Rattle.frames.specs.Session.{Heard}
+use Rattle.frames.specs.Session.{Told}
 use Rattle.frames.specs.declared.Frame.{Frame}
 use Rattle.frames.proofs.Streams.{any-chunks}
 use Rattle.frames.proofs.Sizes.{output-size, output-room}
@@ -8,7 +8,7 @@ use Rattle.frames.proofs.Split.{fed-lines, last-unfed, no-feeds, nothin
 use Rattle.frames.proofs.Backward.{digit-read, digit-upper, frame-read, value-read, number-read}
 use Rattle.frames.proofs.Unique.{one-line}
 
-pub streamed : {B : Type 0} (hear : B → Frame → Heard B) → Streamed hear
+pub streamed : {B : Type 0} (hear : B → Frame → Told B) → Streamed hear
 streamed hear = record { chunks = any-chunks hear; sizes = output-size hear; room = output-room hear }
 
 pub split : Split

@@ -2,6 +2,7 @@ pub mod Patterns
 pub mod Digits
 pub mod Writing
 pub mod Parts
+pub mod Taking
 pub mod Streams
 pub mod Split
 pub mod Sizes

@@ -11,7 +11,7 @@ use Rattle.floats.proofs.Tests.{by}
 use Rattle.frames.specs.Hex.{answerLine, decimals, digits}
 use Rattle.frames.specs.Frames.{frameOf}
 use Rattle.frames.specs.Lines.{unended, linesAfter, lines}
-use Rattle.frames.specs.Session.{Heard, answers, output}
+use Rattle.frames.specs.Session.{Told, answers, output}
 use Rattle.frames.specs.declared.Frame.{Frame}
 
 pub answer-size : (n : ℕ) (x : Float) → length (answerLine n x) ≡ 19
@@ -28,13 +28,14 @@ lines-room p (c ∷ bs) =
     (λ _. omega (arith, lines-room [] bs))
     (λ _. omega (arith, simp length-append at (lines-room (p ++ c ∷ []) bs)))
 
-module _ {B : Type 0} (hear : B → Frame → Heard B) where
+module _ {B : Type 0} (hear : B → Frame → Told B) where
   answers-size : (b : B) (fs : List Frame) → length (answers hear b fs) ≡ 19 * length fs
   unfolding answers
   answers-size b [] = refl
   answers-size b (f ∷ fs) =
       let h = hear b f in
-      rw (length-append (answerLine (h .number) (h .value)) (answers hear (h .book) fs), answer-size (h .number) (h .value), answers-size (h .book) fs) (omega arith)
+      let line = answerLine (h .number) (h .value) in
+      rw (length-append line (answers hear (h .book) fs), answer-size (h .number) (h .value), answers-size (h .book) fs) (omega arith)
 
   pub output-size : (b : B) (input : List ℕ) → length (output hear b input) ≡ 19 * length (lines input)
   output-size b input = answers-size b (map frameOf (lines input)) ∙ ap (λ (n : ℕ). 19 * n) (length-map (lines input) frameOf)

@@ -12,11 +12,11 @@ use Rattle.floats.proofs.Tests.{by}
 use Rattle.frames.specs.Hex.{answerLine}
 use Rattle.frames.specs.Frames.{frameOf}
 use Rattle.frames.specs.Lines.{linesAfter, unended, cap}
-use Rattle.frames.specs.Session.{Heard, Session, answers, bookAfter, output, bookLeft, ended, step, feed, finish, run, joined}
+use Rattle.frames.specs.Session.{Told, Session, answers, bookAfter, output, bookLeft, ended, step, feed, finish, run, joined}
 use Rattle.frames.specs.declared.Frame.{Frame}
 use Rattle.frames.proofs.Parts.{frame-of-part, take-of-part}
 
-module _ {B : Type 0} (hear : B → Frame → Heard B) where
+module _ {B : Type 0} (hear : B → Frame → Told B) where
   abbrev at : B → List ℕ → List ℕ → Session B
   at b p t = record { book = b; part = p; text = t }
 
@@ -35,7 +35,10 @@ module _ {B : Type 0} (hear : B → Frame → Heard B) where
   whole [] b p t = last-part b p t
   whole (x ∷ bs) b p t =
       by (λ (z : Session B × List (List ℕ)). finish hear (feed hear (z .0) bs) ≡ after b t (map frameOf (z .1)))
-      (λ (q : Bool). (cond q (ended hear (at b (take cap p) t)) (at b (take cap (take cap p ++ x ∷ [])) t), cond q (p ∷ linesAfter [] bs) (linesAfter (p ++ x ∷ []) bs)))
+      (λ (q : Bool). (
+        cond q (ended hear (at b (take cap p) t)) (at b (take cap (take cap p ++ x ∷ [])) t),
+        cond q (p ∷ linesAfter [] bs) (linesAfter (p ++ x ∷ []) bs),
+      ))
       (eqb x 10)
       (λ _.
       let h = hear b (frameOf p) in

@@ -103,7 +103,8 @@ abbrev floats : ℕ → ℕ → List ℕ → List Float
 floats zero i l = []
 floats (suc n) i l = float i l ∷ floats n (suc i) l
 
-words-back : (n i : ℕ) (l : List ℕ) → allDigits l ≡ true → length l ≡ 2 + 16 * (i + n) → noNan (floats n i l) ≡ true → words (floats n i l) ≡ drop (2 + 16 * i) l
+words-back : (n i : ℕ) (l : List ℕ) → allDigits l ≡ true → length l ≡ 2 + 16 * (i + n) → noNan (floats n i l) ≡ true
+    → words (floats n i l) ≡ drop (2 + 16 * i) l
 unfolding words noNan
 words-back zero i l e h f = let k : length l ≤ 2 + 16 * i = omega arith in sym (drop-of-length-le l k)
 words-back (suc n) i l e h f =

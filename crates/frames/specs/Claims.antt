@@ -10,12 +10,12 @@ use lib.Ieee.{Float, binary64, fits, isNan}
 use Rattle.frames.specs.Hex.{isDigit, digitValue, digit, float, answerLine}
 use Rattle.frames.specs.Frames.{frameOf, encode, floatsOf}
 use Rattle.frames.specs.Lines.{lines, noFeed, noFeeds, fed}
-use Rattle.frames.specs.Session.{Heard, output, bookLeft, run, joined}
+use Rattle.frames.specs.Session.{Told, output, bookLeft, run, joined}
 use Rattle.frames.specs.declared.Frame.{Frame}
 use Rattle.frames.specs.declared.Frame.the-variants.{Bad}
 
 -- Of the program, over any book.
-pub record Streamed {B : Type 0} (hear : B → Frame → Heard B) : Type 0 where
+pub record Streamed {B : Type 0} (hear : B → Frame → Told B) : Type 0 where
   -- However the input is cut into chunks, what is written is the answers to the frames of its lines. The book left is the one that heard them all,
   -- and nothing of a line is left over.
   pub chunks : (b : B) (cs : List (List ℕ)) →

@@ -30,7 +30,8 @@ pub record Example : Type 0 where
       ∷ Vol nan (decimal 5 10) (decimal 25 100)
       ∷ Read (decimal 100 1) (decimal 5 10) ∷ []
   -- the whole output, answer by answer
-  pub output : answerLine 0 (decimal 0 1) ++ answerLine 0 (decimal 25 100) ++ answerLine 0 (decimal 5 10) ++ answerLine 7 (decimal 0 1) ++ answerLine 0 (decimal 375 1000)
+  pub output : answerLine 0 (decimal 0 1) ++ answerLine 0 (decimal 25 100) ++ answerLine 0 (decimal 5 10) ++ answerLine 7 (decimal 0 1)
+      ++ answerLine 0 (decimal 375 1000)
       ≡ bytes "000000000000000000\n003FD0000000000000\n003FE0000000000000\n070000000000000000\n003FD8000000000000\n"
   -- the other kinds, other not-a-numbers and digits
   pub call : says "11405900000000000040590000000000003FF0000000000000" ≡ Call (decimal 100 1) (decimal 100 1) (decimal 1 1)

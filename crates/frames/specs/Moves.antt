@@ -1,11 +1,10 @@
 -- A program's memory as a session, for any book: what the program's functions leave.
 use mathlib.Core.Path.{_≡_}
-use mathlib.Core.List.{List, _++_}
+use mathlib.Core.List.{List}
 use Prim.Native.Nat.{ℕ, _≤_}
 use lib.ListN.{length, take, drop}
 use Rattle.frames.specs.Lines.{held}
-use Rattle.frames.specs.Session.{Heard, Session, output, bookLeft}
-use Rattle.frames.specs.declared.Frame.{Frame}
+use Rattle.frames.specs.Session.{Session}
 use Rattle.frames.specs.declared.Line.{Line}
 
 -- The book, the part of a line that came so far, and a buffer whose first `at` bytes wait to be written.
@@ -25,9 +24,3 @@ pub record Moved {B : Type 0} (to : Session B) (p r : Place B) : Type 0 where
   pub size : length (r .out) ≡ length (p .out)
   pub from : p .at ≤ r .at
   pub within : r .at ≤ length (r .out)
-
--- The whole of an input at once: the bytes written and how many, every byte of the buffer, and the book.
-pub record Answered {B : Type 0} (hear : B → Frame → Heard B) (b : B) (input out : List ℕ) (count : ℕ) (out' : List ℕ) (b' : B) : Type 0 where
-  pub counted : count ≡ length (output hear b input)
-  pub written : out' ≡ output hear b input ++ drop count out
-  pub book : b' ≡ bookLeft hear b input

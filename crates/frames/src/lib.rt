@@ -7,7 +7,7 @@ ghost use lib.ListN.{length, take, drop};
 ghost use lib.Ieee.{binary64, ofBits, toBits};
 ghost use Rattle.frames.specs.Hex.{isDigit, digitValue, allDigits, value, float, digit, answerLine};
 ghost use Rattle.frames.specs.Frames.{frameOf};
-ghost use Rattle.frames.specs.Lines.{held, noLine, pushed};
+ghost use Rattle.frames.specs.Lines.{held, noLine, pushed, taken};
 
 // What a line says.
 pub enum Frame {
@@ -256,6 +256,29 @@ pub fn push(line: Line, b: u8) -> Line
         return l;
     }
     l
+}
+
+// What was taken of the bytes: the line with it, and the place behind it.
+pub struct Taken {
+    pub line: Line,
+    pub next: usize,
+}
+
+// Takes the bytes from a place on into the line, up to a line feed and with it, or to their end.
+pub fn take_line(line: Line, bytes: &[u8], from: usize) -> Taken
+    ensures { λ r. ⌜ r ≡ taken line (now (bytes .entry)) from ⌝ }
+{
+    let mut l = line;
+    let mut i = from;
+    while i < bytes.len() {
+        let b = bytes[i];
+        i += 1;
+        if b == b'\n' {
+            return Taken { line: l, next: i };
+        }
+        l = push(l, b);
+    }
+    Taken { line: l, next: i }
 }
 
 // The frame of a line that has ended.

@@ -1,3 +1,2 @@
-pub mod PreparedLaws
-pub mod Refusals
+pub mod CallOrPut
 pub mod Solving

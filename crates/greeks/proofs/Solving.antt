@@ -8,13 +8,13 @@ use native.Mathlib.Omega.{arith}
 use types.Run.{OneOf}
 use denote.Enum.Declared.{tagOf}
 use lib.Ieee.{Float}
-use Rattle.limits.specs.Outcome.{Outcome}
 use Rattle.brent.specs.declared.Solver.{Solver}
 use Rattle.brent.specs.declared.Answer.{Answer}
 use Rattle.brent.specs.declared.Answer.the-variants.{Ask, Found, Refused}
-use Rattle.brent.specs.Outcome.{Values, Reply, asking, ended, outcome}
-use Rattle.brent.specs.Feed.{start, feed, over}
-use Rattle.brent.specs.Run.{Run, feedWith, runWith}
+use Rattle.brent.specs.declared.Solution.{Solution}
+use Rattle.brent.specs.Outcome.{outcome}
+use Rattle.brent.specs.Feed.{feed, over}
+use Rattle.brent.specs.Run.{feedWith, runWith}
 use Rattle.brent.proofs.Answer.{the-type}
 use Rattle.brent.proofs.Theorem.{claim}
 use Rattle.greeks.specs.Implied.{Closed, outcomeOfImplied, replied}
@@ -29,11 +29,11 @@ pub rests : (n : ℕ) (price : Float → Float) (a : Answer) → OneOf (1 ∷ 2 
 unfolding feedWith outcome
 rests zero price a h = refl
 rests (suc n) price (Ask v s) h = absurd (neither h)
-rests (suc n) price (Found v x c y k s) h = refl
+rests (suc n) price (Found x s) h = refl
 rests (suc n) price (Refused j k s) h = refl
 
-pub again : (n : ℕ) (price : Float → Float) (a : Answer) (v : Float) (s : Solver) (p : Float) (r : Answer) → 0 < n → a ≡ Ask v s → p ≡ price v → outcome r ≡ feed s p
-    → feedWith (n - 1) price (outcome r) .reply ≡ feedWith n price (outcome a) .reply
+pub again : (n : ℕ) (price : Float → Float) (a : Answer) (v : Float) (s : Solver) (p : Float) (r : Answer) → 0 < n → a ≡ Ask v s → p ≡ price v
+    → outcome r ≡ feed s p → feedWith (n - 1) price (outcome r) .reply ≡ feedWith n price (outcome a) .reply
 unfolding feedWith outcome
 again zero price a v s p r h e f g = absurd (lt-irrefl 0 h)
 again (suc n) price a v s p r h e f g = let z : suc n - 1 ≡ n = omega arith in simp (e, g, f, z)
@@ -43,16 +43,12 @@ unfolding feedWith
 nothing-left zero price a h = refl
 nothing-left (suc n) price a h = absurd (not-suc-le-zero h)
 
--- two functions that agree give the same run
-pub same-prices : (n : ℕ) (f g : Float → Float) (r : Reply) → ((v : Float) → f v ≡ g v) → feedWith n f r ≡ feedWith n g r
-same-prices n f g r h = λ i. feedWith n (λ v. h v i) r
-
 -- ---- the last answer
-pub last-found : (a : Answer) (v x c y : Float) (n : ℕ) (s : Solver) → a ≡ Found v x c y n s → Closed (outcome a) → replied (Implied.Found v x c y n) ≡ outcome a
+pub last-found : (a : Answer) (x : Solution) (s : Solver) → a ≡ Found x s → Closed (outcome a) → replied (Implied.Found x) ≡ outcome a
 unfolding outcome outcomeOfImplied
-last-found a v x c y n s e h =
+last-found a x s e h =
     let k : s ≡ over = subst (λ (w : Answer). Closed (outcome w)) e h in
-    ap (λ (z : Solver). outcome (Found v x c y n z)) (sym k) ∙ ap outcome (sym e)
+    ap (λ (z : Solver). outcome (Found x z)) (sym k) ∙ ap outcome (sym e)
 
 pub last-refused : (a : Answer) (j n : ℕ) (s : Solver) → a ≡ Refused j n s → Closed (outcome a) → replied (Implied.Refused j n) ≡ outcome a
 unfolding outcome outcomeOfImplied

@@ -1,12 +1,11 @@
 -- What price and greeks refuse, and what they answer in document 01's terms.
 use Prim.Native.Nat.{ℕ}
 use mathlib.Core.Bool.{not}
-use lib.Dec.{eqb}
 use lib.Ieee.{Float}
-use Rattle.floats.specs.Operators.{decimal, if_then_else_}
+use Rattle.floats.specs.Operators.{decimal}
 use Rattle.limits.specs.Ranges.{isSpot, isStrike, isExpiry, isRate, isVolatility}
 use Rattle.limits.specs.Checks.{first, none}
-use Rattle.limits.specs.Outcome.{Outcome, done, refused}
+use Rattle.limits.specs.Outcome.{Outcome, done, refused, answered}
 use Rattle.greeks.specs.Model.{price}
 use Rattle.greeks.specs.Greeks.{greeks}
 use Rattle.greeks.specs.declared.OptionParams.{OptionParams}
@@ -27,7 +26,6 @@ optionRefusal p rest =
 
 -- Price and greeks check 6 to 10.
 unfoldable pub refusal : OptionParams → ℕ
-unfolding optionRefusal
 refusal p = optionRefusal p (first (not (isVolatility (p .volatility))) 10 none)
 
 -- ---- the answers in document 01's terms
@@ -38,10 +36,7 @@ outcomeOfPrice (Priced.Refused number) = refused number (decimal 0 1)
 
 unfoldable pub pricing : OptionParams → Outcome Float
 unfolding refusal
-pricing p =
-    if eqb (refusal p) none
-    then done (price (p .«option_type») (p .spot) (p .«risk_free_rate») (p .strike) (p .«time_to_expiry») (p .volatility))
-    else refused (refusal p) (decimal 0 1)
+pricing p = answered (refusal p) (decimal 0 1) (price p)
 
 -- The greeks, or a number beside seven times 0.0.
 abbrev pub noGreeks : Greeks
@@ -53,7 +48,4 @@ outcomeOfGreeks (Sensitivities.Refused number) = refused number noGreeks
 
 unfoldable pub sensitivities : OptionParams → Outcome Greeks
 unfolding refusal
-sensitivities p =
-    if eqb (refusal p) none
-    then done (greeks (p .«option_type») (p .spot) (p .«risk_free_rate») (p .strike) (p .«time_to_expiry») (p .volatility))
-    else refused (refusal p) noGreeks
+sensitivities p = answered (refusal p) noGreeks (greeks p)

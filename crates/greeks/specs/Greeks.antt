@@ -3,62 +3,53 @@ use lib.Ieee.{Float, neg}
 use Rattle.floats.specs.Operators.{decimal, _⊕_, _⊖_, _⊗_, _⊘_}
 use Rattle.normal.specs.Root.{sqrt}
 use Rattle.normal.specs.Normal.{pdf, cdf}
-use Rattle.greeks.specs.Model.{discount, d1, d2}
-use Rattle.greeks.specs.declared.OptionType.{OptionType}
-use Rattle.greeks.specs.declared.OptionType.the-variants.{Call, Put}
+use Rattle.greeks.specs.Model.{ofKind, discount, d1, d2}
+use Rattle.greeks.specs.declared.OptionParams.{OptionParams}
 use Rattle.greeks.specs.declared.Greeks.{Greeks}
 
+-- φ(d1)
+abbrev pub density : OptionParams → Float
+density p = pdf (d1 p)
+
 -- N(d1), and for a put N(d1) - 1
-unfoldable pub delta : OptionType → Float → Float
-delta Call d1 = cdf d1
-delta Put d1 = cdf d1 ⊖ decimal 1 1
+unfoldable pub delta : OptionParams → Float
+delta p = ofKind (p .«option_type») (cdf (d1 p)) (cdf (d1 p) ⊖ decimal 1 1)
 
 -- φ(d1) / (s v √t)
-unfoldable pub gamma : Float → Float → Float → Float → Float
-gamma density spot v root = density ⊘ (spot ⊗ v ⊗ root)
+unfoldable pub gamma : OptionParams → Float
+gamma p = density p ⊘ (p .spot ⊗ p .volatility ⊗ sqrt (p .«time_to_expiry»))
 
 -- What time costs at a fixed rate, which both kinds share: -(s φ(d1) v / (2 √t))
-unfoldable pub decay : Float → Float → Float → Float → Float
-decay density spot v root = neg (spot ⊗ density ⊗ v ⊘ (decimal 2 1 ⊗ root))
+unfoldable pub decay : OptionParams → Float
+decay p = neg (p .spot ⊗ density p ⊗ p .volatility ⊘ (decimal 2 1 ⊗ sqrt (p .«time_to_expiry»)))
 
 -- The decay, less r k exp(-r t) N(d2) for a call, with r k exp(-r t) N(-d2) added for a put
-unfoldable pub theta : OptionType → Float → Float → Float → Float → Float → Float
-theta Call decay rate strike discount d2 = decay ⊖ rate ⊗ strike ⊗ discount ⊗ cdf d2
-theta Put decay rate strike discount d2 = decay ⊕ rate ⊗ strike ⊗ discount ⊗ cdf (neg d2)
+unfoldable pub theta : OptionParams → Float
+theta p =
+    ofKind (p .«option_type»)
+    (decay p ⊖ p .«risk_free_rate» ⊗ p .strike ⊗ discount p ⊗ cdf (d2 p))
+    (decay p ⊕ p .«risk_free_rate» ⊗ p .strike ⊗ discount p ⊗ cdf (neg (d2 p)))
 
 -- s φ(d1) √t
-unfoldable pub vega : Float → Float → Float → Float
-vega density spot root = spot ⊗ density ⊗ root
+unfoldable pub vega : OptionParams → Float
+vega p = p .spot ⊗ density p ⊗ sqrt (p .«time_to_expiry»)
 
 -- k t exp(-r t) N(d2), and for a put -k t exp(-r t) N(-d2)
-unfoldable pub rho : OptionType → Float → Float → Float → Float → Float
-rho Call strike expiry discount d2 = strike ⊗ expiry ⊗ discount ⊗ cdf d2
-rho Put strike expiry discount d2 = neg strike ⊗ expiry ⊗ discount ⊗ cdf (neg d2)
+unfoldable pub rho : OptionParams → Float
+rho p =
+    ofKind (p .«option_type»)
+    (p .strike ⊗ p .«time_to_expiry» ⊗ discount p ⊗ cdf (d2 p))
+    (neg (p .strike) ⊗ p .«time_to_expiry» ⊗ discount p ⊗ cdf (neg (d2 p)))
 
 -- -φ(d1) d2 / v
-unfoldable pub vanna : Float → Float → Float → Float
-vanna density d2 v = neg density ⊗ d2 ⊘ v
+unfoldable pub vanna : OptionParams → Float
+vanna p = neg (density p) ⊗ d2 p ⊘ p .volatility
 
 -- s φ(d1) √t d1 d2 / v
-unfoldable pub volga : Float → Float → Float → Float → Float → Float → Float
-volga density spot root d1 d2 v = spot ⊗ density ⊗ root ⊗ d1 ⊗ d2 ⊘ v
+unfoldable pub volga : OptionParams → Float
+volga p = p .spot ⊗ density p ⊗ sqrt (p .«time_to_expiry») ⊗ d1 p ⊗ d2 p ⊘ p .volatility
 
--- All seven, from what they share.
-unfoldable pub greeksFrom : OptionType → Float → Float → Float → Float → Float → Float → Float → Float → Float → Greeks
+unfoldable pub greeks : OptionParams → Greeks
 unfolding delta gamma decay theta vega rho vanna volga
-greeksFrom kind spot rate strike expiry v root discount d1 d2 =
-    let density = pdf d1 in
-    record {
-      delta = delta kind d1;
-      gamma = gamma density spot v root;
-      theta = theta kind (decay density spot v root) rate strike discount d2;
-      vega = vega density spot root;
-      rho = rho kind strike expiry discount d2;
-      vanna = vanna density d2 v;
-      volga = volga density spot root d1 d2 v;
-    }
-
-unfoldable pub greeks : OptionType → Float → Float → Float → Float → Float → Greeks
-unfolding greeksFrom discount d1 d2
-greeks kind spot rate strike expiry v =
-    greeksFrom kind spot rate strike expiry v (sqrt expiry) (discount rate expiry) (d1 spot rate strike expiry v) (d2 spot rate strike expiry v)
+greeks p =
+    record { delta = delta p; gamma = gamma p; theta = theta p; vega = vega p; rho = rho p; vanna = vanna p; volga = volga p }

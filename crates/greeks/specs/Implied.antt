@@ -8,22 +8,23 @@ use Rattle.floats.specs.Operators.{if_then_else_}
 use Rattle.limits.specs.Ranges.{isPrice}
 use Rattle.limits.specs.Checks.{first, none}
 use Rattle.limits.specs.Outcome.{Outcome, done, refused}
-use Rattle.brent.specs.Outcome.{Values, Reply, asking, ended, zeros}
+use Rattle.brent.specs.declared.Solution.{Solution}
+use Rattle.brent.specs.Outcome.{Reply, asking, ended, zeros}
 use Rattle.brent.specs.Feed.{over}
-use Rattle.brent.specs.Run.{Run, runWith}
-use Rattle.greeks.specs.Model.{price}
+use Rattle.brent.specs.Run.{runWith}
+use Rattle.greeks.specs.Model.{atVolatility, price}
 use Rattle.greeks.specs.Checks.{optionRefusal}
 use Rattle.greeks.specs.declared.OptionParams.{OptionParams}
 use Rattle.greeks.specs.declared.Implied.{Implied}
 use Rattle.greeks.specs.declared.Implied.the-variants.{Found, Refused}
 
+-- 5, then 6 to 9.
 unfoldable pub impliedRefusal : Float → OptionParams → ℕ
-unfolding optionRefusal
 impliedRefusal market p = first (not (isPrice market)) 5 (optionRefusal p none)
 
--- The solver's values, or a number beside zeros and the evaluations made.
-unfoldable pub outcomeOfImplied : Implied → Outcome Values
-outcomeOfImplied (Found volatility error c c-error evaluations) = done (record { volatility = volatility; error = error; c = c; c-error = c-error; evaluations = evaluations })
+-- What the solver found, or a number beside zeros and the evaluations made.
+unfoldable pub outcomeOfImplied : Implied → Outcome Solution
+outcomeOfImplied (Found solution) = done solution
 outcomeOfImplied (Refused number evaluations) = refused number (zeros evaluations)
 
 -- The answer as the solver's last reply: it has ended.
@@ -35,7 +36,7 @@ unfoldable pub implied : Float → OptionParams → Reply
 unfolding impliedRefusal
 implied market p =
     if eqb (impliedRefusal market p) none
-    then runWith market (price (p .«option_type») (p .spot) (p .«risk_free_rate») (p .strike) (p .«time_to_expiry»)) .reply
+    then runWith market (λ v. price (atVolatility p v)) .reply
     else ended (refused (impliedRefusal market p) (zeros 0)) over
 
 -- A solver that has ended, as every run on the prices of a function does (brent's theorem).

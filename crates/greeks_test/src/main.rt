@@ -2,6 +2,7 @@
 // answered (number, evaluations, the value's bits) and ok or MISMATCH; after each kind of record, its totals. vectors.py makes the records and says
 // what a line holds and where the expected values are from.
 ghost use Prim.Native.Nat.{_+_, _≤_, _<_};
+use brent::Solution;
 use greeks::Greeks;
 use greeks::Implied;
 use greeks::OptionParams;
@@ -170,28 +171,22 @@ fn greek(a: u8, b: u8, p: OptionParams) -> Got {
 }
 
 // sigma is the volatility, error its error; other is the opposing point, oerr its error.
-fn solved(a: u8, b: u8, volatility: f64, error: f64, c: f64, c_error: f64) -> f64 {
+fn solved(a: u8, b: u8, solution: Solution) -> f64 {
     if a == b's' {
-        return volatility;
+        return solution.volatility;
     }
     if a == b'e' {
-        return error;
+        return solution.error;
     }
     if b == b'h' {
-        return c;
+        return solution.c;
     }
-    c_error
+    solution.c_error
 }
 
 fn implied(a: u8, b: u8, p: OptionParams) -> Got {
     match greeks::implied_volatility(p.volatility, p) {
-        Implied::Found {
-            volatility,
-            error,
-            c,
-            c_error,
-            evaluations,
-        } => found(evaluations, solved(a, b, volatility, error, c, c_error)),
+        Implied::Found { solution } => found(solution.evaluations, solved(a, b, solution)),
         Implied::Refused {
             number,
             evaluations,

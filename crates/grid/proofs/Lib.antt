@@ -1,4 +1,6 @@
+pub mod Fronts
 pub mod First
+pub mod Values
 pub mod Rows
 pub mod Passes
 pub mod Columns

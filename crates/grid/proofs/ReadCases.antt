@@ -9,8 +9,7 @@ use lib.Ieee.{Float, nan}
 use borrow.Author.Tests.{ne-eqb}
 use Rattle.floats.specs.Operators.{decimal, _≼_}
 use Rattle.limits.specs.Checks.{first}
-use Rattle.limits.specs.Outcome.{done, refused}
-use Rattle.grid.specs.Answers.{answered}
+use Rattle.limits.specs.Outcome.{done, refused, answered}
 use Rattle.grid.specs.Search.{firstWhere}
 use Rattle.grid.specs.Readings.{fraction, bracket, corners, hasGap, bilinear, readRefusal, reading}
 use Rattle.grid.specs.declared.Span.{Span}

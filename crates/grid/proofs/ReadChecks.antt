@@ -1,62 +1,39 @@
 -- What the checks of a read say together: what holds when none does, and that a cell that is not-a-number changes only the last. Assumes nothing.
 use Prim.Native.Nat.{ℕ, zero, suc, _≤_, _<_}
 use mathlib.Core.Path.{_≡_, refl, sym, _∙_}
-use mathlib.Core.Bool.{Bool, true, false, not, _&&_, _||_}
-use mathlib.Core.List.{List}
+use mathlib.Core.Bool.{Bool, true, false, not, _&&_, _||_, or-false}
+use mathlib.Core.List.{List, [], _∷_}
 use native.Mathlib.Omega.{arith}
 use lib.Dec.{ltb}
 use lib.ListN.{length, take}
 use lib.Ieee.{Float}
 use borrow.Author.Tests.{ltb-false, not-false}
 use Rattle.limits.specs.Checks.{first, none}
+use Rattle.limits.proofs.Checks.{Rows, none-passes, passes, stays}
 use Rattle.grid.specs.Readings.{isAxis, inside, readRefusal}
-use Rattle.floats.proofs.Tests.{and-left, and-right}
-
-pub neither : (a b : Bool) → (a || b) ≡ false → (a ≡ false) × (b ≡ false)
-neither true b h = (h, b-false b h)
-  where
-    b-false : (b : Bool) → true ≡ false → b ≡ false
-    b-false true h = h
-    b-false false h = refl
-neither false b h = (refl, h)
+use Rattle.floats.proofs.Tests.{and-left, and-right, or-left-false, or-right-false, split}
 
 -- 2
 pub small : (s e : ℕ) → (ltb 64 s || ltb 32 e) ≡ false → (s ≤ 64) × (e ≤ 32)
-small s e h = let b = neither (ltb 64 s) (ltb 32 e) h in (ltb-false 64 s (b .0), ltb-false 32 e (b .1))
+small s e h =
+    let a = ltb 64 s in
+    let b = ltb 32 e in
+    (ltb-false 64 s (or-left-false a b h), ltb-false 32 e (or-right-false a b h))
 
 -- 15
 pub long : (k t g : ℕ) → (ltb k 64 || ltb t 32 || ltb g 2048) ≡ false → (64 ≤ k) × (32 ≤ t) × (2048 ≤ g)
 long k t g h =
-    let a = neither (ltb k 64 || ltb t 32) (ltb g 2048) h in
-    let b = neither (ltb k 64) (ltb t 32) (a .0) in
-    (ltb-false k 64 (b .0), ltb-false t 32 (b .1), ltb-false g 2048 (a .1))
+    let a = ltb k 64 in
+    let b = ltb t 32 in
+    let c = ltb g 2048 in
+    let d = or-left-false (a || b) c h in
+    (ltb-false k 64 (or-left-false a b d), ltb-false t 32 (or-right-false a b d), ltb-false g 2048 (or-right-false (a || b) c h))
 
 -- 18: an axis has a value
 pub axis-some : (n : ℕ) (l : List Float) → isAxis (take n l) ≡ true → 0 < n
 unfolding isAxis
 axis-some zero l h = (let z : _≡_ {A = ℕ} 0 1 = cc in let w : ⊥ = omega arith in absurd w)
 axis-some (suc n) l h = omega arith
-
-abbrev chain : Bool → Bool → Bool → Bool → Bool → ℕ
-chain a b c d e = first a 2 (first b 15 (first c 18 (first d 19 (first e 20 none))))
-
-chain-none : (a b c d e : Bool) → chain a b c d (e || false) ≡ 0 → (a ≡ false) × (b ≡ false) × (c ≡ false) × (d ≡ false) × (e ≡ false)
-unfolding first
-chain-none true b c d e h = (let z : ⊥ = omega arith in absurd z)
-chain-none false true c d e h = (let z : ⊥ = omega arith in absurd z)
-chain-none false false true d e h = (let z : ⊥ = omega arith in absurd z)
-chain-none false false false true e h = (let z : ⊥ = omega arith in absurd z)
-chain-none false false false false true h = (let z : ⊥ = omega arith in absurd z)
-chain-none false false false false false h = (refl, refl, refl, refl, refl)
-
-chain-same : (a b c d e g : Bool) (n : ℕ) → n ≡ chain a b c d (e || false) → (n ≡ 0 → ⊥) → chain a b c d (e || g) ≡ n
-unfolding first
-chain-same true b c d e g n h k = sym h
-chain-same false true c d e g n h k = sym h
-chain-same false false true d e g n h k = sym h
-chain-same false false false true e g n h k = sym h
-chain-same false false false false true g n h k = sym h
-chain-same false false false false false g n h k = absurd (k h)
 
 -- no check holds but perhaps the last
 pub record Passed (K E grid : List Float) (strikes expiries : ℕ) (strike expiry : Float) : Type 0 where
@@ -69,7 +46,16 @@ pub record Passed (K E grid : List Float) (strikes expiries : ℕ) (strike expir
   pub some-expiries : 0 < expiries
   pub number : (gap : Bool) → readRefusal K E grid strikes expiries strike expiry gap ≡ first gap 20 none
 
-module _ (K E grid : List Float) (strikes expiries : ℕ) (strike expiry : Float) (n : ℕ) (h : n ≡ readRefusal K E grid strikes expiries strike expiry false) where
+-- the last two lines, where those before them pass
+pub read-last : (K E grid : List Float) (strikes expiries : ℕ) (strike expiry : Float) → (ltb 64 strikes || ltb 32 expiries) ≡ false
+    → (ltb (length K) 64 || ltb (length E) 32 || ltb (length grid) 2048) ≡ false → (isAxis (take strikes K) && isAxis (take expiries E)) ≡ true
+    → first (not (inside (take strikes K) strike)) 19 (first (not (inside (take expiries E) expiry)) 20 none)
+    ≡ readRefusal K E grid strikes expiries strike expiry false
+unfolding readRefusal first
+read-last K E grid strikes expiries strike expiry a b c = rw (a, b, c, or-false)
+
+module _ (K E grid : List Float) (strikes expiries : ℕ) (strike expiry : Float) (n : ℕ)
+    (h : n ≡ readRefusal K E grid strikes expiries strike expiry false) where
   abbrev large : Bool
   large = ltb 64 strikes || ltb 32 expiries
 
@@ -79,13 +65,22 @@ module _ (K E grid : List Float) (strikes expiries : ℕ) (strike expiry : Float
   abbrev axes : Bool
   axes = isAxis (take strikes K) && isAxis (take expiries E)
 
+  abbrev outside : Bool
+  outside = not (inside (take expiries E) expiry)
+
+  -- 2, 15, 18 and 19
+  abbrev rows : Rows
+  rows = (large, 2) ∷ (short, 15) ∷ (not axes, 18) ∷ (not (inside (take strikes K) strike), 19) ∷ []
+
   pub passed : n ≡ 0 → Passed K E grid strikes expiries strike expiry
   unfolding readRefusal first
   passed z =
-      let p = chain-none large short (not axes) (not (inside (take strikes K) strike)) (not (inside (take expiries E) expiry)) (sym h ∙ z) in
-      let a = not-false axes (p .2) in
+      let q = passes rows (first (outside || false) 20 none) refl (sym h ∙ z) in
+      let p = q .0 in
+      let e = or-left-false outside false (none-passes (outside || false) 20 none (omega arith) (q .1) .0) in
+      let a = not-false axes (p .1 .1 .0) in
       let s = small strikes expiries (p .0) in
-      let l = long (length K) (length E) (length grid) (p .1) in
+      let l = long (length K) (length E) (length grid) (p .1 .0) in
       record {
         few-strikes = s .0;
         few-expiries = s .1;
@@ -94,9 +89,12 @@ module _ (K E grid : List Float) (strikes expiries : ℕ) (strike expiry : Float
         long-grid = l .2;
         some-strikes = axis-some strikes K (and-left (isAxis (take strikes K)) (isAxis (take expiries E)) a);
         some-expiries = axis-some expiries E (and-right (isAxis (take strikes K)) (isAxis (take expiries E)) a);
-        number = λ gap. rw (p .0, p .1, p .2, p .3, p .4);
+        number = λ gap. rw (p .0, p .1 .0, p .1 .1 .0, p .1 .1 .1 .0, e);
       }
 
   pub refused : (n ≡ 0 → ⊥) → (gap : Bool) → readRefusal K E grid strikes expiries strike expiry gap ≡ n
-  unfolding readRefusal
-  refused k gap = chain-same large short (not axes) (not (inside (take strikes K) strike)) (not (inside (take expiries E) expiry)) gap n h k
+  unfolding readRefusal first
+  refused k gap =
+      split outside
+      (λ t. rw t (sym (rw t at h)))
+      (λ f. rw f (sym (stays rows n (first gap 20 none) (rw f at h) k)))

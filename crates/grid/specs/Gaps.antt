@@ -9,8 +9,7 @@ use lib.ListN.{length, getD, set}
 use lib.Ieee.{Float, nan, isNan}
 use Rattle.floats.specs.Operators.{if_then_else_}
 use Rattle.limits.specs.Checks.{first, none}
-use Rattle.limits.specs.Outcome.{Outcome, done, refused}
-use Rattle.grid.specs.Answers.{answered, unlessRefused}
+use Rattle.limits.specs.Outcome.{Outcome, done, refused, answered, unlessRefused}
 use Rattle.grid.specs.Layout.{cellAt, values, partly}
 use Rattle.grid.specs.declared.Filling.{Filling}
 use Rattle.grid.specs.declared.Filling.the-variants.{Done, Refused}

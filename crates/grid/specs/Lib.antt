@@ -1,4 +1,3 @@
-pub mod Answers
 pub mod Layout
 pub mod Search
 pub mod Gaps

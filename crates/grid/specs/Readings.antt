@@ -10,8 +10,7 @@ use Rattle.floats.specs.Operators.{decimal, _⊕_, _⊖_, _⊗_, _⊘_, _≺_, 
 use Rattle.floats.specs.Values.{magnitude, finite}
 use Rattle.limits.specs.Ranges.{within}
 use Rattle.limits.specs.Checks.{first, none}
-use Rattle.limits.specs.Outcome.{Outcome, done, refused}
-use Rattle.grid.specs.Answers.{answered}
+use Rattle.limits.specs.Outcome.{Outcome, done, refused, answered}
 use Rattle.grid.specs.Layout.{cellAt}
 use Rattle.grid.specs.Search.{firstWhere}
 use Rattle.grid.specs.declared.Span.{Span}

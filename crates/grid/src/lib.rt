@@ -132,11 +132,10 @@ pub enum Filling {
 pub fn fill_gaps(grid: &mut [f64], strikes: usize, expiries: usize) -> Filling
     ensures { λ r. ⌜ FillsGaps strikes expiries (now (grid .entry)) r (now (grid .exit)) ⌝ }
 {
-    if (strikes > 64) | (expiries > 32) {
-        return Filling::Refused { number: 2 };
-    }
-    if grid.len() < 2048 {
-        return Filling::Refused { number: 15 };
+    let large = (strikes > 64) | (expiries > 32);
+    let number = limits::first(large, 2, limits::first(grid.len() < 2048, 15, 0));
+    if number != 0 {
+        return Filling::Refused { number };
     }
     sweep_rows(grid, strikes, expiries);
     sweep_columns(grid, strikes, expiries);
@@ -285,7 +284,8 @@ fn bilinear(v: Corners, ts: f64, te: f64) -> f64
     (1.0 - te) * ((1.0 - ts) * v.v00 + ts * v.v10) + te * ((1.0 - ts) * v.v01 + ts * v.v11)
 }
 
-// 2, 15, 18, 19 and 20, as far as no cell is read.
+// 2, 15, 18, 19 and 20, as far as no cell is read. An axis is read only where it has room for its values, and its ends only where it has one, so 2,
+// 15 and 18 return before.
 fn read_number(
     strike_axis: &[f64],
     expiry_axis: &[f64],
@@ -295,7 +295,8 @@ fn read_number(
     strike: f64,
     expiry: f64,
 ) -> u64
-    ensures { λ r. ⌜ r ≡ readRefusal (now («strike_axis» .entry)) (now («expiry_axis» .entry)) (now (grid .entry)) strikes expiries strike expiry false ⌝ }
+    ensures { λ r. ⌜ r ≡ readRefusal (now («strike_axis» .entry)) (now («expiry_axis» .entry)) (now (grid .entry))
+        strikes expiries strike expiry false ⌝ }
 {
     if (strikes > 64) | (expiries > 32) {
         return 2;
@@ -303,19 +304,14 @@ fn read_number(
     if (strike_axis.len() < 64) | (expiry_axis.len() < 32) | (grid.len() < 2048) {
         return 15;
     }
-    if !is_axis(strike_axis, strikes) {
+    let ks = is_axis(strike_axis, strikes);
+    let ts = is_axis(expiry_axis, expiries);
+    if !(ks & ts) {
         return 18;
     }
-    if !is_axis(expiry_axis, expiries) {
-        return 18;
-    }
-    if !inside(strike_axis, strikes, strike) {
-        return 19;
-    }
-    if !inside(expiry_axis, expiries, expiry) {
-        return 20;
-    }
-    0
+    let k = inside(strike_axis, strikes, strike);
+    let t = inside(expiry_axis, expiries, expiry);
+    limits::first(!k, 19, limits::first(!t, 20, 0))
 }
 
 pub fn interpolate(
@@ -327,7 +323,8 @@ pub fn interpolate(
     strike: f64,
     expiry: f64,
 ) -> Reading
-    ensures { λ r. ⌜ readOutcome r ≡ reading (now («strike_axis» .entry)) (now («expiry_axis» .entry)) (now (grid .entry)) strikes expiries strike expiry ⌝ }
+    ensures { λ r. ⌜ readOutcome r ≡ reading (now («strike_axis» .entry)) (now («expiry_axis» .entry)) (now (grid .entry))
+        strikes expiries strike expiry ⌝ }
 {
     let number = read_number(
         strike_axis,
@@ -372,7 +369,8 @@ pub fn atm_vol(
     expiries: usize,
     expiry: f64,
 ) -> Reading
-    ensures { λ r. ⌜ readOutcome r ≡ reading (now («strike_axis» .entry)) (now («expiry_axis» .entry)) (now (grid .entry)) strikes expiries (middleStrike (now («strike_axis» .entry)) strikes) expiry ⌝ }
+    ensures { λ r. ⌜ readOutcome r ≡ reading (now («strike_axis» .entry)) (now («expiry_axis» .entry)) (now (grid .entry))
+        strikes expiries (middleStrike (now («strike_axis» .entry)) strikes) expiry ⌝ }
 {
     let strike = middle(strike_axis, strikes);
     interpolate(

@@ -8,22 +8,23 @@ use lib.Dec.{eqb}
 use lib.Ieee.{Float}
 use borrow.Author.Tests.{ne-eqb, eqb-false}
 use Rattle.floats.specs.Operators.{decimal, if_then_else_}
+use Rattle.floats.proofs.Tests.{split}
 use Rattle.limits.specs.Checks.{none}
-use Rattle.limits.specs.Outcome.{Outcome, done, refused}
-use Rattle.brent.specs.Outcome.{Values, ended, zeros}
+use Rattle.limits.specs.Outcome.{Outcome, done, refused, numberOf, valuesOf, answered}
+use Rattle.brent.specs.declared.Solution.{Solution}
+use Rattle.brent.specs.Outcome.{ended, zeros}
 use Rattle.brent.specs.Feed.{over as finished}
 use Rattle.brent.specs.Run.{runWith}
-use Rattle.greeks.specs.Model.{price}
+use Rattle.greeks.specs.Model.{atVolatility, price}
 use Rattle.greeks.specs.Greeks.{greeks}
 use Rattle.greeks.specs.Checks.{refusal, pricing, noGreeks, sensitivities}
 use Rattle.greeks.specs.Implied.{impliedRefusal, implied}
 use Rattle.greeks.specs.declared.OptionParams.{OptionParams}
-use Rattle.grid.specs.Answers.{answered}
 use Rattle.grid.specs.Readings.{reading}
 use Rattle.ledger.specs.Book.{endOf}
 use Rattle.ledger.specs.Calls.{Ended}
 use Rattle.book.proofs.Solver.{run-ended}
-use Rattle.host.specs.Answers.{told, over, numberOf, valuesOf}
+use Rattle.host.specs.Answers.{told, over}
 
 -- A refusal has a number.
 abbrev pub Numbered : {X : Type 0} → Outcome X → Type 0
@@ -32,7 +33,7 @@ Numbered (refused number x) = number ≡ none → ⊥
 
 -- A number and values that are those of o tell o.
 told-back : {X Y : Type 0} (f : X → Y) (o : Outcome X) → Numbered o → told (numberOf o) (f (valuesOf o)) ≡ over f o
-unfolding told over numberOf valuesOf
+unfolding told over
 told-back f (done x) h = refl
 told-back f (refused number x) h = simp (ne-eqb number none h)
 
@@ -49,31 +50,25 @@ module _ {X : Type 0} (a o : Outcome X) (answers : a ≡ o) (h : Numbered o) whe
   told-same n values p q = rw (← over-same o) (told-over (λ x. x) n values p q)
 
 -- The answer to a chain of checks.
-numbered : {X : Type 0} (n : ℕ) (values zeros : X) → Numbered (if eqb n none then done values else refused n zeros)
-numbered n values zeros = go (eqb n none) refl
-  where
-    go : (b : Bool) → eqb n none ≡ b → Numbered (if b then done values else refused n zeros)
-    go true e = tt
-    go false e = eqb-false n none e
-
 pub numbered-answer : {X : Type 0} (n : ℕ) (zeros values : X) → Numbered (answered n zeros values)
 unfolding answered
-numbered-answer n zeros values = numbered n values zeros
+numbered-answer n zeros values = split (eqb n none) (λ t. rw t tt) (λ f. rw f (eqb-false n none f))
 
 pub numbered-pricing : (p : OptionParams) → Numbered (pricing p)
 unfolding pricing
-numbered-pricing p = numbered (refusal p) (price (p .«option_type») (p .spot) (p .«risk_free_rate») (p .strike) (p .«time_to_expiry») (p .volatility)) (decimal 0 1)
+numbered-pricing p = numbered-answer (refusal p) (decimal 0 1) (price p)
 
 pub numbered-sensitivities : (p : OptionParams) → Numbered (sensitivities p)
 unfolding sensitivities
-numbered-sensitivities p = numbered (refusal p) (greeks (p .«option_type») (p .spot) (p .«risk_free_rate») (p .strike) (p .«time_to_expiry») (p .volatility)) noGreeks
+numbered-sensitivities p = numbered-answer (refusal p) noGreeks (greeks p)
 
-pub numbered-reading : (strikeAxis expiryAxis grid : List Float) (strikes expiries : ℕ) (strike expiry : Float) → Numbered (reading strikeAxis expiryAxis grid strikes expiries strike expiry)
+pub numbered-reading : (strikeAxis expiryAxis grid : List Float) (strikes expiries : ℕ) (strike expiry : Float)
+    → Numbered (reading strikeAxis expiryAxis grid strikes expiries strike expiry)
 unfolding reading
 numbered-reading strikeAxis expiryAxis grid strikes expiries strike expiry = numbered-answer _ _ _
 
 -- What a solver ends with.
-numbered-end : (o : Outcome Values) → Ended o → Numbered o
+numbered-end : (o : Outcome Solution) → Ended o → Numbered o
 numbered-end (done x) h = tt
 numbered-end (refused number x) h = λ (e : number ≡ none). omega arith
 
@@ -82,8 +77,9 @@ unfolding implied endOf
 numbered-implied market p = go (eqb (impliedRefusal market p) none) refl
   where
     prices : Float → Float
-    prices = price (p .«option_type») (p .spot) (p .«risk_free_rate») (p .strike) (p .«time_to_expiry»)
+    prices v = price (atVolatility p v)
 
-    go : (b : Bool) → eqb (impliedRefusal market p) none ≡ b → Numbered (endOf (if b then runWith market prices .reply else ended (refused (impliedRefusal market p) (zeros 0)) finished))
+    go : (b : Bool) → eqb (impliedRefusal market p) none ≡ b
+        → Numbered (endOf (if b then runWith market prices .reply else ended (refused (impliedRefusal market p) (zeros 0)) finished))
     go true e = numbered-end (endOf (runWith market prices .reply)) (run-ended market prices)
     go false e = eqb-false (impliedRefusal market p) none e

@@ -8,20 +8,19 @@ ghost use Rattle.normal.specs.Ln.{ln};
 ghost use Rattle.normal.specs.Erfc.{erfc};
 ghost use Rattle.normal.specs.Normal.{pdf, cdf};
 ghost use Rattle.greeks.specs.Checks.{outcomeOfPrice, pricing, outcomeOfGreeks, sensitivities, noGreeks};
-ghost use Rattle.greeks.specs.Implied.{outcomeOfImplied, implied};
+ghost use Rattle.greeks.specs.Implied.{implied};
 ghost use Rattle.grid.specs.Readings.{readOutcome, reading, middleStrike};
 ghost use Rattle.grid.specs.Gaps.{fillOutcome, FillsGaps};
 ghost use Rattle.chart.specs.Build.{outcome};
-ghost use Rattle.ledger.specs.Book.{columns, endOf};
-ghost use Rattle.ledger.specs.Build.{buffers};
-ghost use Rattle.trays.specs.Tray.{slices, lent, heardOffers};
-ghost use Rattle.host.specs.Answers.{told, over, numberOf, valuesOf, kindOf, optionOf, greeksEntries, solvedEntries, written, solvedWritten};
+ghost use Rattle.ledger.specs.Book.{columnsOf, endOf};
+ghost use Rattle.ledger.specs.Build.{buffersOf};
+ghost use Rattle.trays.specs.Tray.{answers, lent, heardOffers};
+ghost use Rattle.limits.specs.Outcome.{numberOf, valuesOf};
+ghost use Rattle.host.specs.Answers.{told, over, optionOf, greeksEntries, written, solvedWritten};
 ghost use Rattle.host.specs.Calls.{fillingIn, lengthsOf, BuildsFor, bookOf, builtOf, QuotesFor};
 use chart::Built;
 use greeks::Greeks;
-use greeks::Implied;
 use greeks::OptionParams;
-use greeks::OptionType;
 use greeks::Priced;
 use greeks::Sensitivities;
 use grid::Filling;
@@ -75,16 +74,6 @@ pub extern "C" fn kite_cdf(x: f64) -> f64
 
 // ---- an option
 
-fn kind_of(put: bool) -> OptionType
-    ensures { λ r. ⌜ r ≡ kindOf put ⌝ }
-{
-    if put {
-        OptionType::Put
-    } else {
-        OptionType::Call
-    }
-}
-
 fn option_of(
     put: bool,
     spot: f64,
@@ -101,7 +90,7 @@ fn option_of(
         time_to_expiry: expiry,
         risk_free_rate: rate,
         volatility,
-        option_type: kind_of(put),
+        option_type: trays::kind_of(put),
     }
 }
 
@@ -192,60 +181,6 @@ pub extern "C" fn kite_bsm_greeks(
     greeks_number(answer)
 }
 
-fn implied_number(answer: Implied) -> u64
-    ensures { λ r. ⌜ r ≡ numberOf (outcomeOfImplied answer) ⌝ }
-{
-    match answer {
-        Implied::Found {
-            volatility: _,
-            error: _,
-            c: _,
-            c_error: _,
-            evaluations: _,
-        } => 0,
-        Implied::Refused {
-            number,
-            evaluations: _,
-        } => number,
-    }
-}
-
-fn implied_evaluations(answer: Implied) -> u64
-    ensures { λ r. ⌜ r ≡ valuesOf (outcomeOfImplied answer) .evaluations ⌝ }
-{
-    match answer {
-        Implied::Found {
-            volatility: _,
-            error: _,
-            c: _,
-            c_error: _,
-            evaluations,
-        } => evaluations,
-        Implied::Refused {
-            number: _,
-            evaluations,
-        } => evaluations,
-    }
-}
-
-fn implied_values(answer: Implied) -> [f64; 4]
-    ensures { λ r. ⌜ r ≡ solvedEntries (valuesOf (outcomeOfImplied answer)) ⌝ }
-{
-    match answer {
-        Implied::Found {
-            volatility,
-            error,
-            c,
-            c_error,
-            evaluations: _,
-        } => [volatility, error, c, c_error],
-        Implied::Refused {
-            number: _,
-            evaluations: _,
-        } => [0.0, 0.0, 0.0, 0.0],
-    }
-}
-
 // Checks 5 to 9, then solves: 12, 13 (11 never holds: crate bounds).
 // Writes the volatility, its error, the opposing point c, its error; and the evaluations made.
 #[no_mangle]
@@ -259,15 +194,17 @@ pub extern "C" fn kite_implied_volatility(
     values: &mut [f64; 4],
     evaluations: &mut u64,
 ) -> u64
-    ensures { λ r. ⌜ told r (written (now (values .exit)) (now (evaluations .exit))) ≡ over solvedWritten (endOf (implied market (optionOf put spot strike expiry rate (decimal 0 1)))) ⌝ }
+    ensures { λ r. ⌜ told r (written (now (values .exit)) (now (evaluations .exit)))
+        ≡ over solvedWritten (endOf (implied market (optionOf put spot strike expiry rate (decimal 0 1)))) ⌝ }
 {
     let answer = greeks::implied_volatility(
         market,
         option_of(put, spot, strike, expiry, rate, 0.0),
     );
-    *values = implied_values(answer);
-    *evaluations = implied_evaluations(answer);
-    implied_number(answer)
+    let numbers = trays::numbers_of(answer);
+    *values = trays::evidence_of(answer);
+    *evaluations = numbers[1];
+    numbers[0]
 }
 
 // ---- a surface
@@ -319,7 +256,8 @@ pub extern "C" fn kite_interpolate(
     expiry: f64,
     volatility: &mut f64,
 ) -> u64
-    ensures { λ r. ⌜ told r (now (volatility .exit)) ≡ reading (now («strike_axis» .entry)) (now («expiry_axis» .entry)) (now (grid .entry)) strikes expiries strike expiry ⌝ }
+    ensures { λ r. ⌜ told r (now (volatility .exit))
+        ≡ reading (now («strike_axis» .entry)) (now («expiry_axis» .entry)) (now (grid .entry)) strikes expiries strike expiry ⌝ }
 {
     let answer = grid::interpolate(
         strike_axis,
@@ -345,7 +283,9 @@ pub extern "C" fn kite_atm_vol(
     expiry: f64,
     volatility: &mut f64,
 ) -> u64
-    ensures { λ r. ⌜ told r (now (volatility .exit)) ≡ reading (now («strike_axis» .entry)) (now («expiry_axis» .entry)) (now (grid .entry)) strikes expiries (middleStrike (now («strike_axis» .entry)) strikes) expiry ⌝ }
+    ensures { λ r. ⌜ told r (now (volatility .exit))
+        ≡ reading (now («strike_axis» .entry)) (now («expiry_axis» .entry)) (now (grid .entry)) strikes expiries
+        (middleStrike (now («strike_axis» .entry)) strikes) expiry ⌝ }
 {
     let answer = grid::atm_vol(
         strike_axis,
@@ -393,7 +333,12 @@ pub extern "C" fn kite_build(
     counts: &mut [u64],
     lengths: &mut [u64; 2],
 ) -> u64
-    ensures { λ r. ⌜ BuildsFor (now (strikes .entry)) (now (expiries .entry)) (now (volatilities .entry)) count (now («strike_axis» .entry)) (now («expiry_axis» .entry)) (now (grid .entry)) (now (counts .entry)) r (now (lengths .exit)) (now («strike_axis» .exit)) (now («expiry_axis» .exit)) (now (grid .exit)) (now (counts .exit)) ⌝ }
+    ensures { λ r. ⌜ BuildsFor
+        (columnsOf (now (strikes .entry)) (now (expiries .entry)) (now (volatilities .entry)))
+        count
+        (buffersOf (now («strike_axis» .entry)) (now («expiry_axis» .entry)) (now (grid .entry)) (now (counts .entry)))
+        r (now (lengths .exit))
+        (buffersOf (now («strike_axis» .exit)) (now («expiry_axis» .exit)) (now (grid .exit)) (now (counts .exit))) ⌝ }
 {
     let built = surface::build(
         strikes,
@@ -430,18 +375,15 @@ fn built_of(tray: Tray) -> Built
 }
 
 // Opens a fresh book, hears the list, builds. 6 and 9 are the opening's refusals; 1, 15, 16 and 17 the build's. Writes kept, refused, heard and
-// evaluations to `totals`; an offer's number (0 for accepted) and volatility to `numbers` and `solved`.
+// evaluations to `totals`; an offer's number (0 for accepted) and evaluations to `numbers`, its volatility, error, point c and error there to `evidence`.
 #[no_mangle]
 pub extern "C" fn kite_quote_tray(
     spot: f64,
     rate: f64,
-    prices: &[bool],
-    puts: &[bool],
-    ks: &[f64],
-    ts: &[f64],
-    vs: &[f64],
-    numbers: &mut [u64],
-    solved: &mut [f64],
+    kinds: &[[bool; 2]],
+    figures: &[[f64; 3]],
+    numbers: &mut [[u64; 2]],
+    evidence: &mut [[f64; 4]],
     strikes: &mut [f64],
     expiries: &mut [f64],
     volatilities: &mut [f64],
@@ -452,18 +394,23 @@ pub extern "C" fn kite_quote_tray(
     totals: &mut [u64; 4],
     lengths: &mut [u64; 2],
 ) -> u64
-    ensures { λ r. ⌜ (let l = lent (now (numbers .entry)) (now (solved .entry)) (columns (now (strikes .entry)) (now (expiries .entry)) (now (volatilities .entry))) (buffers (now («strike_axis» .entry)) (now («expiry_axis» .entry)) (now (grid .entry)) (now (counts .entry))) in QuotesFor (record { spot = spot; rate = rate }) (heardOffers (slices (now (prices .entry)) (now (puts .entry)) (now (ks .entry)) (now (ts .entry)) (now (vs .entry))) l) l r (now (totals .exit)) (now (lengths .exit)) (lent (now (numbers .exit)) (now (solved .exit)) (columns (now (strikes .exit)) (now (expiries .exit)) (now (volatilities .exit))) (buffers (now («strike_axis» .exit)) (now («expiry_axis» .exit)) (now (grid .exit)) (now (counts .exit))))) ⌝ }
+    ensures { λ r. ⌜ QuotesFor (record { spot = spot; rate = rate })
+        (heardOffers (now (kinds .entry)) (now (figures .entry)) (answers (now (numbers .entry)) (now (evidence .entry))))
+        (lent (answers (now (numbers .entry)) (now (evidence .entry)))
+        (columnsOf (now (strikes .entry)) (now (expiries .entry)) (now (volatilities .entry)))
+        (buffersOf (now («strike_axis» .entry)) (now («expiry_axis» .entry)) (now (grid .entry)) (now (counts .entry))))
+        r (now (totals .exit)) (now (lengths .exit))
+        (lent (answers (now (numbers .exit)) (now (evidence .exit)))
+        (columnsOf (now (strikes .exit)) (now (expiries .exit)) (now (volatilities .exit)))
+        (buffersOf (now («strike_axis» .exit)) (now («expiry_axis» .exit)) (now (grid .exit)) (now (counts .exit)))) ⌝ }
 {
     let tray = trays::quote_tray(
         spot,
         rate,
-        prices,
-        puts,
-        ks,
-        ts,
-        vs,
+        kinds,
+        figures,
         numbers,
-        solved,
+        evidence,
         strikes,
         expiries,
         volatilities,

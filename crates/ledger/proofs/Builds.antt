@@ -4,37 +4,33 @@ use mathlib.Core.Logic.{inl, inr}
 use Prim.Native.Nat.{ℕ, _-_, _*_, _≤_, _<_}
 use native.Mathlib.Nat.{eq-or-lt-of-le}
 use native.Mathlib.Omega.{arith}
-use mathlib.Core.Bool.{Bool, true, false, not, _||_}
+use mathlib.Core.Bool.{Bool, true, false, _||_}
 use mathlib.Core.List.{List, [], _∷_, List·Memᴰ, List·Memᴰ·not-nil, List·Memᴰ·cases-cons}
 use mathlib.Core.Option.{Option, some}
 use mathlib.Core.Option as Option
 use lib.Dec.{ltb}
 use lib.ListN.{length, drop}
 use lib.Seq.{take-append-seam, drop-append-seam}
-use borrow.Author.Tests.{lt-ltb, le-ltb, ltb-true, ltb-false, eq-eqb, ne-eqb}
+use borrow.Author.Tests.{le-ltb, ltb-true, ltb-false, eq-eqb, ne-eqb}
 use lib.Ieee.{nan}
-use Rattle.floats.proofs.Tests.{or-left-false, or-right-false}
 use Rattle.limits.specs.Checks.{first, none}
-use Rattle.grid.specs.Answers.{answered, unlessRefused}
-use Rattle.chart.specs.Quotes.{Quote, quotes, allInRange}
+use Rattle.limits.specs.Outcome.{answered, unlessRefused}
+use Rattle.limits.proofs.Checks.{passes, none-of}
+use Rattle.chart.specs.Quotes.{Quote, allInRange}
 use Rattle.chart.specs.Axis.{place}
 use Rattle.chart.specs.Cells.{Axes, axes, Housed, count, mean, leftward, rightward, either, source, cell}
-use Rattle.chart.specs.Build.{front, table, lengths, noLengths, refusal}
+use Rattle.chart.specs.Build.{lengths, noLengths, isWrong, isSmall, refusal, surfaceOf}
 use Rattle.chart.proofs.Housing.{meaning}
 use Rattle.chart.proofs.Layouts.{table-length, table-at, table-else}
-use Rattle.chart.proofs.Neighbour.{Left, Right, left-is, right-is}
+use Rattle.chart.proofs.Neighbour.{Left, Right, left-is, right-is, source-own}
 use Rattle.ledger.specs.Model.{Opening}
 use Rattle.ledger.specs.Tally.{Tally}
 use Rattle.ledger.specs.Book.{Columns, openRefusal, isShort}
 use Rattle.ledger.specs.Build.{Buffers, quotesOf, buildRefusal, buildOutcome, buffersAfter}
-use Rattle.ledger.specs.Claim.{Ledger, Neighbour, left, right, surfaceRefusal, rows, columns, SurfaceClaim, BuildClaim}
+use Rattle.ledger.specs.Claim.{Ledger, Neighbour, left, right, surfaceRefusal, height, width, SurfaceClaim, BuildClaim}
 use Rattle.ledger.proofs.Agree.{Agree, same-short, unbroken}
 
 -- ---- where a cell's mean comes from
-own-source : (c : ℕ → ℕ) (w j : ℕ) → 0 < c j → source c w j ≡ j
-unfolding source
-own-source c w j h = rw (lt-ltb 0 (c j) h)
-
 -- a row with a counted column b has a neighbour for each uncounted one
 found-in : (c : ℕ → ℕ) (w j b : ℕ) (l r : Option ℕ) → c j ≡ 0 → j < w → b < w → 0 < c b → Left c j l → Right c j w r → Neighbour c w j (either l r)
 found-in c w j b (some k) r z h g p a d = left (a .0) (a .1) (a .2)
@@ -66,60 +62,46 @@ inside x q (p ∷ qs) h m = elim (List·Memᴰ·cases-cons m) [
 
 -- ---- the surface of quotes in range, in buffers that are long enough
 module _ (qs : List Quote) (s : Buffers) where
-  abbrev surfaceAfter : Buffers
-  surfaceAfter =
-      record {
-        strikes = front (axes qs .strikes) (s .strikes);
-        expiries = front (axes qs .expiries) (s .expiries);
-        grid = table (rows qs s) (columns qs s) (cell (axes qs) qs) (s .grid);
-        counts = table (rows qs s) (columns qs s) (λ i j. count (axes qs) i j qs) (s .counts);
-      }
-
-  surface-claim : allInRange qs ≡ true → columns qs s ≤ 64 → rows qs s ≤ 32 → 2048 ≤ length (s .grid) → 2048 ≤ length (s .counts) → SurfaceClaim qs s surfaceAfter
+  surface-claim : allInRange qs ≡ true → width qs s ≤ 64 → height qs s ≤ 32 → 2048 ≤ length (s .grid) → 2048 ≤ length (s .counts)
+      → SurfaceClaim qs s (surfaceOf qs s)
   unfolding cell
   surface-claim ranged narrow low grid counts =
       let x = axes qs in
       let means = meaning qs ranged in
-      let g : 64 * rows qs s ≤ length (s .grid) = omega arith in
-      let n : 64 * rows qs s ≤ length (s .counts) = omega arith in
+      let g : 64 * height qs s ≤ length (s .grid) = omega arith in
+      let n : 64 * height qs s ≤ length (s .counts) = omega arith in
       record {
-        strikes = take-append-seam (x .strikes) (drop (columns qs s) (s .strikes));
-        expiries = take-append-seam (x .expiries) (drop (rows qs s) (s .expiries));
+        strikes = take-append-seam (x .strikes) (drop (width qs s) (s .strikes));
+        expiries = take-append-seam (x .expiries) (drop (height qs s) (s .expiries));
         housed = λ m. inside x _ qs (means .housed) m;
-        counts = λ i j a b. table-at (λ i j. count x i j qs) (columns qs s) narrow (s .counts) (rows qs s) i j 0 n a b;
+        counts = λ i j a b. table-at (λ i j. count x i j qs) (width qs s) narrow (s .counts) (height qs s) i j 0 n a b;
         once = means .once;
         means = λ i j a b c.
-            table-at (cell x qs) (columns qs s) narrow (s .grid) (rows qs s) i j nan g a b
-            ∙ ap (λ (k : ℕ). mean x i k qs) (own-source (λ k. count x i k qs) (columns qs s) j c);
+            table-at (cell x qs) (width qs s) narrow (s .grid) (height qs s) i j nan g a b
+            ∙ ap (λ (k : ℕ). mean x i k qs) (source-own (λ k. count x i k qs) (width qs s) j c);
         neighbours = λ i j a b z.
             let y = means .row-counted i a in (
-              source (λ k. count x i k qs) (columns qs s) j,
-              neighbour (λ k. count x i k qs) (columns qs s) j (y .0) z b (y .1) (y .2),
-              table-at (cell x qs) (columns qs s) narrow (s .grid) (rows qs s) i j nan g a b,
+              source (λ k. count x i k qs) (width qs s) j,
+              neighbour (λ k. count x i k qs) (width qs s) j (y .0) z b (y .1) (y .2),
+              table-at (cell x qs) (width qs s) narrow (s .grid) (height qs s) i j nan g a b,
             );
-        rest-strikes = drop-append-seam (x .strikes) (drop (columns qs s) (s .strikes));
-        rest-expiries = drop-append-seam (x .expiries) (drop (rows qs s) (s .expiries));
-        rest-grid = λ p o. table-else (cell x qs) (columns qs s) narrow (s .grid) (rows qs s) p nan g (λ i j a b e. o i j a b (sym e));
-        rest-counts = λ p o. table-else (λ i j. count x i j qs) (columns qs s) narrow (s .counts) (rows qs s) p 0 n (λ i j a b e. o i j a b (sym e));
-        same-lengths = (table-length (cell x qs) (columns qs s) narrow (s .grid) (rows qs s) g, table-length (λ i j. count x i j qs) (columns qs s) narrow (s .counts) (rows qs s) n);
+        rest-strikes = drop-append-seam (x .strikes) (drop (width qs s) (s .strikes));
+        rest-expiries = drop-append-seam (x .expiries) (drop (height qs s) (s .expiries));
+        rest-grid = λ p o. table-else (cell x qs) (width qs s) narrow (s .grid) (height qs s) p nan g (λ i j a b e. o i j a b (sym e));
+        rest-counts = λ p o. table-else (λ i j. count x i j qs) (width qs s) narrow (s .counts) (height qs s) p 0 n (λ i j a b e. o i j a b (sym e));
+        same-lengths = (
+          table-length (cell x qs) (width qs s) narrow (s .grid) (height qs s) g,
+          table-length (λ i j. count x i j qs) (width qs s) narrow (s .counts) (height qs s) n,
+        );
       }
 
 -- ---- the checks of a build
 -- what passing 15, 16 and 17 says
 pub record Fits (qs : List Quote) (s : Buffers) : Type 0 where
-  pub narrow : columns qs s ≤ 64
-  pub low : rows qs s ≤ 32
+  pub narrow : width qs s ≤ 64
+  pub low : height qs s ≤ 32
   pub grid : 2048 ≤ length (s .grid)
   pub counts : 2048 ≤ length (s .counts)
-
-passed : (short buffers strikes expiries : Bool) → first short 1 (first buffers 15 (first strikes 16 (first expiries 17 none))) ≡ none
-    → (buffers ≡ false) × (strikes ≡ false) × (expiries ≡ false)
-unfolding first
-passed true b k t e = absurd (omega arith)
-passed false true k t e = absurd (omega arith)
-passed false false true t e = absurd (omega arith)
-passed false false false true e = absurd (omega arith)
-passed false false false false e = (refl, refl, refl)
 
 pub fits : (qs : List Quote) (s : Buffers) (short : Bool) → surfaceRefusal qs s short ≡ none → Fits qs s
 unfolding surfaceRefusal
@@ -128,12 +110,13 @@ fits qs s short e =
     let b = ltb (length (s .expiries)) 32 in
     let c = ltb (length (s .grid)) 2048 in
     let d = ltb (length (s .counts)) 2048 in
-    let p = passed short (a || b || c || d) (ltb 64 (columns qs s)) (ltb 32 (rows qs s)) e in
+    let p = passes ((short, 1) ∷ (a || b || c || d, 15) ∷ (ltb 64 (width qs s), 16) ∷ (ltb 32 (height qs s), 17) ∷ []) none refl e .0 in
+    let n = none-of a (b ∷ c ∷ d ∷ []) (p .1 .0) in
     record {
-      narrow = ltb-false 64 (columns qs s) (p .1);
-      low = ltb-false 32 (rows qs s) (p .2);
-      grid = ltb-false (length (s .grid)) 2048 (or-right-false (a || b) c (or-left-false (a || b || c) d (p .0)));
-      counts = ltb-false (length (s .counts)) 2048 (or-right-false (a || b || c) d (p .0));
+      narrow = ltb-false 64 (width qs s) (p .1 .1 .0);
+      low = ltb-false 32 (height qs s) (p .1 .1 .1 .0);
+      grid = ltb-false (length (s .grid)) 2048 (n .1 .1 .0);
+      counts = ltb-false (length (s .counts)) 2048 (n .1 .1 .1 .0);
     }
 
 -- 2 does not hold of the book, and 1 is told once
@@ -144,31 +127,19 @@ unfolding first
 twice true b k t = refl
 twice false b k t = refl
 
-surface-lines : (c : Columns) (kept k t g n strikes expiries : ℕ)
-    → refusal (c .strikes) (c .expiries) (c .volatilities) kept k t g n strikes expiries
-    ≡ first (isShort c) 1
-    (first (ltb 1024 kept || not (allInRange (quotes kept (c .strikes) (c .expiries) (c .volatilities)))) 2
-    (first (ltb k 64 || ltb t 32 || ltb g 2048 || ltb n 2048) 15
-    (first (ltb 64 strikes) 16
-    (first (ltb 32 expiries) 17
-    none))))
-unfolding refusal isShort
-surface-lines c kept k t g n strikes expiries = refl
-
-module _ (opening : Opening) (was : Columns) (ok : openRefusal opening ≡ none) (l : Ledger) (t : Tally) (a : Agree opening was l t) (same : quotesOf (l .book) (l .columns) ≡ t .quotes) (s : Buffers) where
+module _ (opening : Opening) (was : Columns) (ok : openRefusal opening ≡ none) (l : Ledger) (t : Tally) (a : Agree opening was l t)
+    (same : quotesOf (l .book) (l .columns) ≡ t .quotes) (s : Buffers) where
   refusal-is : buildRefusal (l .book) (l .columns) s ≡ surfaceRefusal (t .quotes) s (isShort was)
-  unfolding buildRefusal surfaceRefusal
+  unfolding buildRefusal surfaceRefusal refusal isWrong isSmall
   refusal-is =
-      rw (surface-lines, same-short opening was l t a, unbroken opening was l t ok a, le-ltb 1024 (l .book .kept) (a .room), same, a .ranged)
-      (twice (isShort was) (ltb (length (s .strikes)) 64 || ltb (length (s .expiries)) 32 || ltb (length (s .grid)) 2048 || ltb (length (s .counts)) 2048) (ltb 64 (columns (t .quotes) s)) (ltb 32 (rows (t .quotes) s)))
+      rw (same-short opening was l t a, unbroken opening was l t ok a, le-ltb 1024 (l .book .kept) (omega (arith, a .kept, a .room)), same, a .ranged)
+      (twice (isShort was) (isSmall s) (ltb 64 (width (t .quotes) s)) (ltb 32 (height (t .quotes) s)))
 
   outcome-is : buildOutcome (l .book) (l .columns) s ≡ answered (surfaceRefusal (t .quotes) s (isShort was)) noLengths (lengths (axes (t .quotes)))
-  unfolding buildOutcome
   outcome-is = λ i. answered (refusal-is i) noLengths (lengths (axes (same i)))
 
-  buffers-are : buffersAfter (l .book) (l .columns) s ≡ unlessRefused (surfaceRefusal (t .quotes) s (isShort was)) (surfaceAfter (t .quotes) s) s
-  unfolding buffersAfter
-  buffers-are = λ i. unlessRefused (refusal-is i) (surfaceAfter (same i) s) s
+  buffers-are : buffersAfter (l .book) (l .columns) s ≡ unlessRefused (surfaceRefusal (t .quotes) s (isShort was)) (surfaceOf (t .quotes) s) s
+  buffers-are = λ i. unlessRefused (refusal-is i) (surfaceOf (same i) s) s
 
   pub build-claim : BuildClaim (t .quotes) s (isShort was) (buildOutcome (l .book) (l .columns) s) (buffersAfter (l .book) (l .columns) s)
   unfolding unlessRefused
@@ -179,6 +150,7 @@ module _ (opening : Opening) (was : Columns) (ok : openRefusal opening ≡ none)
         refused = λ n. buffers-are ∙ rw (ne-eqb r none n);
         surface = λ e.
             let f = fits (t .quotes) s (isShort was) e in
-            let accepted : buffersAfter (l .book) (l .columns) s ≡ surfaceAfter (t .quotes) s = buffers-are ∙ rw (eq-eqb r none e) in
-            subst (λ (s' : Buffers). SurfaceClaim (t .quotes) s s') (sym accepted) (surface-claim (t .quotes) s (a .ranged) (f .narrow) (f .low) (f .grid) (f .counts));
+            let accepted : buffersAfter (l .book) (l .columns) s ≡ surfaceOf (t .quotes) s = buffers-are ∙ rw (eq-eqb r none e) in
+            subst (λ (s' : Buffers). SurfaceClaim (t .quotes) s s') (sym accepted)
+            (surface-claim (t .quotes) s (a .ranged) (f .narrow) (f .low) (f .grid) (f .counts));
       }

@@ -2,6 +2,7 @@
 -- Assumes nothing.
 use borrow.Author.Tests.{eq-eqb, ne-eqb}
 use Rattle.limits.specs.Checks.{none}
+use Rattle.limits.specs.Outcome.{answered}
 use Rattle.ledger.specs.Model.{Opening}
 use Rattle.ledger.specs.Book.{openRefusal, opened}
 use Rattle.ledger.specs.Claim.{Claim, OpeningClaim, tallied, ledger}
@@ -9,7 +10,7 @@ use Rattle.ledger.proofs.Lists.{list-claim, agreed, quoted}
 use Rattle.ledger.proofs.Builds.{build-claim}
 
 opens : (opening : Opening) → OpeningClaim opening (opened opening)
-unfolding opened
+unfolding opened answered
 opens opening = record { opens = λ e. rw (eq-eqb (openRefusal opening) none e); stays-shut = λ n. rw (ne-eqb (openRefusal opening) none n) }
 
 pub claim : Claim

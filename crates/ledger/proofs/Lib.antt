@@ -1,8 +1,11 @@
+pub mod Sound
 pub mod Settled
+pub mod Folds
 pub mod Quoted
 pub mod Agree
 pub mod Once
 pub mod Lists
+pub mod Lengths
 pub mod Builds
 pub mod Demand3
 pub mod TeethSurface

@@ -1,90 +1,66 @@
 -- A list of offers: book and tally agree after it, offer by offer. Assumes nothing.
-use mathlib.Core.Path.{_≡_, refl, sym, ap, _∙_}
+use mathlib.Core.Path.{_≡_, _∙_}
 use Prim.Native.Nat.{ℕ, _+_}
 use native.Mathlib.Nat.{zero-add}
 use native.Mathlib.Omega.{arith}
-use mathlib.Core.List.{List, [], _∷_, _++_, map, append-nil, append-assoc}
+use mathlib.Core.List.{List}
 use lib.ListN.{take}
-use lib.Ieee.{Float}
 use Rattle.limits.specs.Checks.{none}
-use Rattle.limits.specs.Outcome.{Outcome, done, refused}
-use Rattle.brent.specs.Outcome.{Values}
-use Rattle.chart.specs.Quotes.{Quote}
-use Rattle.ledger.specs.Model.{Opening, Model, Offer}
-use Rattle.ledger.specs.Tally.{Tally, fresh as noQuotes, step, tallyFrom, grewFrom}
-use Rattle.ledger.specs.Book.{Columns, openRefusal, isShort, offerOutcome}
+use Rattle.limits.specs.Outcome.{Outcome, valuesOf}
+use Rattle.brent.specs.declared.Solution.{Solution}
+use Rattle.chart.proofs.Kept.{read-back}
+use Rattle.ledger.specs.Model.{Opening, Model}
+use Rattle.ledger.specs.Tally.{Tally, fresh as noQuotes, step}
+use Rattle.ledger.specs.Book.{Columns, openRefusal, isShort}
 use Rattle.ledger.specs.Build.{quotesOf}
-use Rattle.ledger.specs.Claim.{Ledger, hear, hearAll, replies, isDone, valuesOf, sum, found, numberOf, numbersFrom, Evidence, Each, tallied, first-ledger, ledger, ListClaim}
-use Rattle.ledger.proofs.Quoted.{read-back}
+use Rattle.ledger.specs.Claim.{Ledger, hear, reply, Right, holding, tallied, first-ledger, ledger, ListClaim}
+use Rattle.ledger.specs.declared.Offer.{Offer}
+use Rattle.ledger.proofs.Folds.{holds-after, holds-each, holds-sum}
+use Rattle.ledger.proofs.Quoted.{column-front}
 use Rattle.ledger.proofs.Agree.{Agree, start, unbroken}
 use Rattle.ledger.proofs.Once.{once}
 
 module _ (model : Model) (opening : Opening) (was : Columns) (ok : openRefusal opening ≡ none) where
-  abbrev evaluationsIn : Outcome Values → ℕ
+  abbrev evaluationsIn : Outcome Solution → ℕ
   evaluationsIn r = valuesOf r .evaluations
 
-  abbrev volatilityIn : Quote → Float
-  volatilityIn q = q .volatility
+  abbrev tells : Tally → Offer → Tally
+  tells = step model opening (isShort was)
 
-  -- what a list does from a book and a tally that agree
-  record Heard (l : Ledger) (t : Tally) (os : List Offer) : Type 0 where
-    pub agree : Agree opening was (hearAll model l os) (tallyFrom model opening (isShort was) t os)
-    pub accepted : map isDone (replies model l os) ≡ grewFrom model opening (isShort was) t os
-    pub numbers : map numberOf (replies model l os) ≡ numbersFrom model opening (isShort was) t os
-    pub reported : hearAll model l os .book .evaluations ≡ l .book .evaluations + sum (map evaluationsIn (replies model l os))
-    pub volatilities : map volatilityIn (tallyFrom model opening (isShort was) t os .quotes) ≡ map volatilityIn (t .quotes) ++ found (replies model l os)
-    pub evidence : Each (Evidence model opening) os (replies model l os)
+  keeps : (l : Ledger) (t : Tally) (o : Offer) → Agree opening was l t → Agree opening was (hear model l o) (tells t o)
+  unfolding hear
+  keeps l t o a = once model opening was l t o ok a .agree
 
-  found-cons : (r : Outcome Values) (rs : List (Outcome Values)) → found (r ∷ []) ++ found rs ≡ found (r ∷ rs)
-  unfolding found
-  found-cons (done x) rs = refl
-  found-cons (refused number x) rs = refl
+  reports : (l : Ledger) (t : Tally) (o : Offer) → Agree opening was l t
+      → hear model l o .book .evaluations ≡ l .book .evaluations + evaluationsIn (reply model l o)
+  reports l t o a = omega (arith, a .evaluations, keeps l t o a .evaluations, once model opening was l t o ok a .right .counted)
 
-  heard : (l : Ledger) (t : Tally) (os : List Offer) → Agree opening was l t → Heard l t os
-  unfolding hearAll hear tallyFrom replies grewFrom numbersFrom sum found
-  heard l t [] a = record { agree = a; accepted = refl; numbers = refl; reported = omega arith; volatilities = sym (append-nil _); evidence = tt }
-  heard l t (o ∷ os) a =
-      let s = once model opening was l t o ok a in
-      let n = s .next in
-      let h = heard (hear model l o) (step model opening (isShort was) t o) os (n .agree) in
-      record {
-        agree = h .agree;
-        accepted = λ i. n .accepted i ∷ h .accepted i;
-        numbers = λ i. s .number i ∷ h .numbers i;
-        reported = omega arith;
-        volatilities = h .volatilities ∙ rw (n .volatilities, append-assoc) (ap (λ (vs : List Float). map volatilityIn (t .quotes) ++ vs) (found-cons (offerOutcome model (l .columns) (l .book) o) (replies model (hear model l o) os)));
-        evidence = (s .evidence, h .evidence);
-      }
-
-  agrees : (os : List Offer) → Heard (first-ledger model opening was os) noQuotes os
-  agrees os = heard (first-ledger model opening was os) noQuotes os (start opening was)
-
-  -- the columns' first entries, read side by side
+  -- the columns' first entries, read by their index
   pub quoted : (l : Ledger) (t : Tally) → Agree opening was l t → quotesOf (l .book) (l .columns) ≡ t .quotes
-  quoted l t a = rw (a .strikes .front, a .expiries .front, a .volatilities .front) (read-back (t .quotes))
+  quoted l t a =
+      rw (a .kept, a .columns)
+      (read-back (holding (t .quotes) was) (t .quotes)
+      (column-front _ (t .quotes) (was .strikes)) (column-front _ (t .quotes) (was .expiries)) (column-front _ (t .quotes) (was .volatilities)))
 
   pub agreed : (os : List Offer) → Agree opening was (ledger model opening was os) (tallied model opening was os)
-  agreed os = agrees os .agree
+  agreed os = holds-after (hear model) tells (Agree opening was) keeps (first-ledger model opening was os) noQuotes os (start opening was)
 
   pub list-claim : (os : List Offer) → ListClaim model opening was os
   list-claim os =
-      let h = agrees os in
-      let a = h .agree in
+      let first = first-ledger model opening was os in
+      let a = agreed os in
       record {
-        accepted = h .accepted;
-        numbers = h .numbers;
+        each = holds-each (hear model) tells (Agree opening was) keeps (reply model) (Right model opening (isShort was))
+            (λ l t o p. once model opening was l t o ok p .right) first noQuotes os (start opening was);
         kept = a .kept;
         quotes = quoted (ledger model opening was os) (tallied model opening was os) a;
         heard = a .heard;
         refused = a .refused;
         evaluations = a .evaluations;
-        spot = a .spot;
-        rate = a .rate;
-        rest-strikes = a .strikes .rest;
-        rest-expiries = a .expiries .rest;
-        rest-volatilities = a .volatilities .rest;
+        inputs = a .inputs;
+        columns = a .columns;
         never-2 = λ n. unbroken opening was _ _ ok (agreed (take n os));
-        reported = h .reported ∙ zero-add _;
-        volatilities = sym (h .volatilities);
-        evidence = h .evidence;
+        reported = holds-sum (hear model) tells (Agree opening was) keeps (reply model)
+            (λ l. l .book .evaluations) evaluationsIn reports first noQuotes os (start opening was)
+            ∙ zero-add _;
       }

@@ -1,32 +1,36 @@
 -- One offer: the book answers it by the tally's tests, and book and tally agree after it. Assumes nothing.
-use mathlib.Core.Path.{_≡_, refl, sym, _∙_, subst}
-use Prim.Native.Nat.{ℕ, _+_}
+use mathlib.Core.Path.{_≡_, refl, sym, subst}
+use Prim.Native.Nat.{ℕ, _+_, _<_}
 use native.Mathlib.Omega.{arith}
 use mathlib.Core.Bool.{Bool, true, false, not, _||_}
-use mathlib.Core.List.{[], _∷_, _++_, map, map-append, append-nil}
-use lib.Dec.{leb, eqb}
+use mathlib.Core.List.{[], _∷_, _++_}
+use lib.Dec.{leb, eqb, lit<}
 use lib.ListN.{length, length-append}
-use borrow.Author.Tests.{leb-false, le-leb, lt-leb}
+use borrow.Author.Tests.{leb-false, eq-eqb, ne-eqb}
 use lib.Ieee.{Float}
 use Rattle.floats.specs.Operators.{if_then_else_}
+use Rattle.floats.proofs.Tests.{clash}
 use Rattle.limits.specs.Checks.{first, none}
-use Rattle.limits.specs.Outcome.{Outcome, done, refused}
-use Rattle.brent.specs.Outcome.{Values, zeros}
+use Rattle.limits.specs.Outcome.{Outcome, done, refused, isDone, numberOf, valuesOf}
+use Rattle.brent.specs.declared.Solution.{Solution}
+use Rattle.brent.specs.Outcome.{zeros}
 use Rattle.chart.specs.Quotes.{Quote}
-use Rattle.ledger.specs.Model.{Opening, Model, Offer, volatility, priced, strikeOf, expiryOf}
-use Rattle.ledger.specs.Tally.{Fate, listed, turned, fate, Tally, turnedDown, listedAt, tallied, step}
-use Rattle.ledger.specs.Book.{Columns, openingOf, openRefusal, isShort, ownRefusal, entryRefusal, offerRefusal, answer, offerOutcome, turnedBook, bookAfter, columnAfter, columnsAfter, volatilityOf}
-use Rattle.ledger.specs.Claim.{Ledger, isDone, valuesOf, found, numberOf, numberFrom, Evidence}
-use Rattle.ledger.proofs.Settled.{Accepted, Declined, Alike, settled, settles, settled-number}
+use Rattle.chart.proofs.Kept.{long}
+use Rattle.ledger.specs.Model.{Opening, Model, pricesOf}
+use Rattle.ledger.specs.Tally.{Fate, listed, turned, fate, Tally, turnedDown, quoteOf, listedAt, accounted, step}
+use Rattle.ledger.specs.Book.{Columns, openRefusal, isShort, ownRefusal, offerRefusal, answer, offerOutcome, turnedBook, bookAfter, filed, columnsAfter}
+use Rattle.ledger.specs.Claim.{Ledger, reply, listAfter, numberFrom, Evidence, Right, holding}
+use Rattle.ledger.specs.declared.Offer.{Offer}
+use Rattle.ledger.proofs.Settled.{Accepted, Declined, Alike, Early, refused-early, settled, settles, settled-number}
 use Rattle.ledger.proofs.Quoted.{column-grows, ranged-more}
-use Rattle.ledger.proofs.Agree.{Agree, same-short, unbroken, long}
+use Rattle.ledger.proofs.Agree.{Agree, same-short, unbroken}
 
 -- ---- what an offer is answered: by 1, 3 and 4, else as its own checks and its solver say
-abbrev replied : Bool → Bool → Bool → Outcome Values → Outcome Values
+abbrev replied : Bool → Bool → Bool → Outcome Solution → Outcome Solution
 replied short all-heard full r =
     if short then refused 1 (zeros 0) else (if all-heard then refused 3 (zeros 0) else (if full then refused 4 (zeros 0) else r))
 
-reply-by : (short all-heard full : Bool) (own : ℕ) (a : Outcome Values)
+reply-by : (short all-heard full : Bool) (own : ℕ) (a : Outcome Solution)
     → (let n = first short 1 (first false 2 (first all-heard 3 (first full 4 own))) in if eqb n none then a else refused n (zeros 0))
     ≡ replied short all-heard full (if eqb own none then a else refused own (zeros 0))
 unfolding first
@@ -35,64 +39,65 @@ reply-by false true f own a = refl
 reply-by false false true own a = refl
 reply-by false false false own a = refl
 
-number-by : (short all-heard full : Bool) (n : ℕ) (r : Outcome Values) → n ≡ numberOf r
-    → first short 1 (first all-heard 3 (first full 4 n)) ≡ numberOf (replied short all-heard full r)
+number-by : (short all-heard full : Bool) (n : ℕ) (r : Outcome Solution) → n ≡ numberOf r
+    → numberOf (replied short all-heard full r) ≡ first short 1 (first all-heard 3 (first full 4 n))
 unfolding first
 number-by true h f n r e = refl
 number-by false true f n r e = refl
 number-by false false true n r e = refl
-number-by false false false n r e = e
+number-by false false false n r e = sym e
+
+early : (n : ℕ) → 0 < n → n < 11 → Early n
+early n p q = record { some = λ e. omega arith; not-11 = λ e. omega arith; not-12 = λ e. omega arith; not-13 = λ e. omega arith }
 
 module _ (model : Model) (opening : Opening) (was : Columns) where
   reply-is : (l : Ledger) (t : Tally) (o : Offer) → openRefusal opening ≡ none → Agree opening was l t
-      → offerOutcome model (l .columns) (l .book) o ≡ replied (isShort was) (leb 60000 (t .heard)) (leb 1024 (length (t .quotes))) (settled model opening o)
-  unfolding offerOutcome offerRefusal entryRefusal
+      → reply model l o ≡ replied (isShort was) (leb 60000 (t .heard)) (leb 1024 (length (t .quotes))) (settled model opening o)
+  unfolding offerOutcome offerRefusal
   reply-is l t o ok a =
-      let same : openingOf (l .book) ≡ opening = λ i. record { spot = a .spot i; rate = a .rate i } in
-      rw (same-short opening was l t a, unbroken opening was l t ok a, a .heard, a .kept, same)
+      rw (same-short opening was l t a, unbroken opening was l t ok a, a .heard, a .kept, a .inputs)
       (reply-by (isShort was) (leb 60000 (t .heard)) (leb 1024 (length (t .quotes))) (ownRefusal o) (answer model opening o))
 
   -- ---- what it leaves
-  abbrev pub after : Ledger → Offer → Outcome Values → Ledger
-  after l o r = record { book = bookAfter (l .book) r; columns = columnsAfter (l .book) (l .columns) o r }
+  abbrev left : Ledger → Offer → Outcome Solution → Ledger
+  left l o r = record { book = bookAfter (l .book) r; columns = columnsAfter (l .book) (l .columns) o r }
 
-  pub record Next (l : Ledger) (t : Tally) (r : Outcome Values) (l' : Ledger) (t' : Tally) : Type 0 where
+  record Next (l : Ledger) (t : Tally) (o : Offer) (r : Outcome Solution) (l' : Ledger) (t' : Tally) : Type 0 where
     pub agree : Agree opening was l' t'
-    pub accepted : isDone r ≡ not (leb (length (t' .quotes)) (length (t .quotes)))
-    pub reported : l' .book .evaluations ≡ l .book .evaluations + valuesOf r .evaluations
-    pub volatilities : map (λ (q : Quote). q .volatility) (t' .quotes) ≡ map (λ (q : Quote). q .volatility) (t .quotes) ++ found (r ∷ [])
+    pub listed : t' .quotes ≡ listAfter (t .quotes) o r
+    pub accepted : isDone r ≡ not (eqb (length (t' .quotes)) (length (t .quotes)))
+    pub counted : t' .evaluations ≡ t .evaluations + valuesOf r .evaluations
 
-  not-longer : (n : ℕ) → not (leb n n) ≡ false
-  not-longer n = rw (le-leb n n (omega arith))
+  same-list : (n : ℕ) → false ≡ not (eqb n n)
+  same-list n = sym (rw (eq-eqb n n refl))
 
   -- 1 and 3 leave everything as it is
-  left-alone : (l : Ledger) (o : Offer) (number : ℕ) (x : Values) → leb number 3 ≡ true → after l o (refused number x) ≡ l
-  unfolding bookAfter columnsAfter columnAfter
+  left-alone : (l : Ledger) (o : Offer) (number : ℕ) (x : Solution) → leb number 3 ≡ true → left l o (refused number x) ≡ l
+  unfolding bookAfter columnsAfter
   left-alone l o number x h = λ i. record { book = if h i then l .book else turnedBook (l .book) (x .evaluations); columns = l .columns }
 
   stays : (l : Ledger) (t : Tally) (o : Offer) (number : ℕ) → leb number 3 ≡ true → Agree opening was l t
-      → Next l t (refused number (zeros 0)) (after l o (refused number (zeros 0))) t
-  unfolding found zeros
+      → Next l t o (refused number (zeros 0)) (left l o (refused number (zeros 0))) t
+  unfolding zeros
   stays l t o number h a =
-      subst (λ (l' : Ledger). Next l t (refused number (zeros 0)) l' t) (sym (left-alone l o number (zeros 0) h))
-      (record { agree = a; accepted = sym (not-longer (length (t .quotes))); reported = omega arith; volatilities = sym (append-nil _) })
+      subst (λ (l' : Ledger). Next l t o (refused number (zeros 0)) l' t) (sym (left-alone l o number (zeros 0) h))
+      (record { agree = a; listed = refl; accepted = same-list (length (t .quotes)); counted = omega arith })
 
   -- any other refusal counts as heard and refused
-  turned-down : (l : Ledger) (o : Offer) (number : ℕ) (x : Values) → leb number 3 ≡ false
-      → after l o (refused number x) ≡ record { book = turnedBook (l .book) (x .evaluations); columns = l .columns }
-  unfolding bookAfter columnsAfter columnAfter
+  turned-down : (l : Ledger) (o : Offer) (number : ℕ) (x : Solution) → leb number 3 ≡ false
+      → left l o (refused number x) ≡ record { book = turnedBook (l .book) (x .evaluations); columns = l .columns }
+  unfolding bookAfter columnsAfter
   turned-down l o number x h = λ i. record { book = if h i then l .book else turnedBook (l .book) (x .evaluations); columns = l .columns }
 
-  turns : (l : Ledger) (t : Tally) (o : Offer) (number : ℕ) (x : Values) (obtained : ℕ) → leb 60000 (t .heard) ≡ false → Declined number x obtained → Agree opening was l t
-      → Next l t (refused number x) (after l o (refused number x)) (turnedDown t obtained)
-  unfolding found turnedDown
+  turns : (l : Ledger) (t : Tally) (o : Offer) (number : ℕ) (x : Solution) (obtained : ℕ) → leb 60000 (t .heard) ≡ false → Declined number x obtained
+      → Agree opening was l t → Next l t o (refused number x) (left l o (refused number x)) (turnedDown t obtained)
+  unfolding turnedDown
   turns l t o number x obtained h d a =
       let few = leb-false 60000 (t .heard) h in
-      subst (λ (l' : Ledger). Next l t (refused number x) l' (turnedDown t obtained)) (sym (turned-down l o number x (d .late)))
+      subst (λ (l' : Ledger). Next l t o (refused number x) l' (turnedDown t obtained)) (sym (turned-down l o number x (d .late)))
       (record {
         agree = record {
-          spot = a .spot;
-          rate = a .rate;
+          inputs = a .inputs;
           kept = a .kept;
           heard = omega arith;
           refused = omega arith;
@@ -101,30 +106,39 @@ module _ (model : Model) (opening : Opening) (was : Columns) where
           total = omega arith;
           few = omega arith;
           cost = omega arith;
-          strikes = a .strikes;
-          expiries = a .expiries;
-          volatilities = a .volatilities;
+          columns = a .columns;
+          shut = a .shut;
           ranged = a .ranged;
         };
-        accepted = sym (not-longer (length (t .quotes)));
-        reported = refl;
-        volatilities = sym (append-nil _);
+        listed = refl;
+        accepted = same-list (length (t .quotes));
+        counted = omega arith;
       })
 
   -- an accepted one is listed at the end, and stands at index kept of the columns
-  keeps : (l : Ledger) (t : Tally) (o : Offer) (x : Values) (v : Float) (obtained : ℕ) → isShort was ≡ false → leb 60000 (t .heard) ≡ false → leb 1024 (length (t .quotes)) ≡ false
-      → Accepted o x v obtained → Agree opening was l t → Next l t (done x) (after l o (done x)) (listedAt t o v obtained)
-  unfolding bookAfter columnsAfter columnAfter volatilityOf found listedAt
+  files : (l : Ledger) (t : Tally) (o : Offer) (v : Float) → isShort was ≡ false → length (t .quotes) < 1024 → Agree opening was l t
+      → filed (l .book .kept) o v (l .columns) ≡ holding (t .quotes ++ (quoteOf o v ∷ [])) was
+  files l t o v sh room a =
+      let w = long was sh in
+      rw (a .kept, a .columns)
+      (λ i. record {
+        strikes = column-grows (λ (q : Quote). q .strike) (t .quotes) (was .strikes) (quoteOf o v) (omega arith) i;
+        expiries = column-grows (λ (q : Quote). q .expiry) (t .quotes) (was .expiries) (quoteOf o v) (omega arith) i;
+        volatilities = column-grows (λ (q : Quote). q .volatility) (t .quotes) (was .volatilities) (quoteOf o v) (omega arith) i;
+      })
+
+  keeps : (l : Ledger) (t : Tally) (o : Offer) (x : Solution) (v : Float) (obtained : ℕ)
+      → isShort was ≡ false → leb 60000 (t .heard) ≡ false → leb 1024 (length (t .quotes)) ≡ false
+      → Accepted (o .strike) (o .expiry) x v obtained → Agree opening was l t → Next l t o (done x) (left l o (done x)) (listedAt t o v obtained)
+  unfolding bookAfter columnsAfter listedAt
   keeps l t o x v obtained sh h f d a =
       let few = leb-false 60000 (t .heard) h in
       let room = leb-false 1024 (length (t .quotes)) f in
-      let lengths = long (l .columns) (same-short opening was l t a ∙ sh) in
-      let q : Quote = record { strike = strikeOf o; expiry = expiryOf o; volatility = v } in
+      let longer : length (t .quotes ++ (quoteOf o v ∷ [])) ≡ length (t .quotes) + 1 = simp length-append in
       record {
         agree = record {
-          spot = a .spot;
-          rate = a .rate;
-          kept = simp length-append (omega arith);
+          inputs = a .inputs;
+          kept = omega arith;
           heard = omega arith;
           refused = a .refused;
           evaluations = omega arith;
@@ -132,21 +146,21 @@ module _ (model : Model) (opening : Opening) (was : Columns) where
           total = omega arith;
           few = omega arith;
           cost = omega arith;
-          strikes = column-grows _ _ (t .quotes) (was .strikes) (l .columns .strikes) q _ (omega arith) refl (a .strikes);
-          expiries = column-grows _ _ (t .quotes) (was .expiries) (l .columns .expiries) q _ (omega arith) refl (a .expiries);
-          volatilities = column-grows _ _ (t .quotes) (was .volatilities) (l .columns .volatilities) q _ (omega arith) (d .listed) (a .volatilities);
-          ranged = ranged-more (t .quotes) q (rw (d .strike, d .expiry, d .in-range)) (a .ranged);
+          columns = rw (← d .listed) (files l t o v sh room a);
+          shut = λ e. absurd (clash e sh);
+          ranged = ranged-more (t .quotes) (quoteOf o v) (rw (d .strike, d .expiry, d .in-range)) (a .ranged);
         };
-        accepted = sym (rw (lt-leb (length (t .quotes ++ (q ∷ []))) (length (t .quotes)) (simp length-append (omega arith))));
-        reported = refl;
-        volatilities = map-append _ (t .quotes) (q ∷ []) ∙ rw (d .listed);
+        listed = rw (d .listed);
+        accepted = sym (rw (ne-eqb (length (t .quotes ++ (quoteOf o v ∷ []))) (length (t .quotes)) (λ z. omega arith)));
+        counted = omega arith;
       }
 
-  next-by : (l : Ledger) (t : Tally) (o : Offer) (short all-heard full : Bool) (r : Outcome Values) (f : Fate)
-      → isShort was ≡ short → leb 60000 (t .heard) ≡ all-heard → leb 1024 (length (t .quotes)) ≡ full → Alike o r f → Agree opening was l t
-      → Next l t (replied short all-heard full r) (after l o (replied short all-heard full r))
-      (if short || all-heard then t else (if full then turnedDown t 0 else tallied t o f))
-  unfolding tallied zeros
+  next-by : (l : Ledger) (t : Tally) (o : Offer) (short all-heard full : Bool) (r : Outcome Solution) (f : Fate)
+      → isShort was ≡ short → leb 60000 (t .heard) ≡ all-heard → leb 1024 (length (t .quotes)) ≡ full → Alike (o .strike) (o .expiry) r f
+      → Agree opening was l t
+      → Next l t o (replied short all-heard full r) (left l o (replied short all-heard full r))
+      (if short || all-heard then t else (if full then turnedDown t 0 else accounted t o f))
+  unfolding accounted zeros
   next-by l t o true h u r f p q k s a = stays l t o 1 refl a
   next-by l t o false true u r f p q k s a = stays l t o 3 refl a
   next-by l t o false false true r f p q k s a = turns l t o 4 (zeros 0) 0 q (record { counted = refl; few = omega arith; late = refl }) a
@@ -156,33 +170,33 @@ module _ (model : Model) (opening : Opening) (was : Columns) where
   next-by l t o false false false (refused number x) (turned n) p q k s a = turns l t o number x n q s a
 
   -- ---- the evidence
-  refused-early : (o : Offer) (number : ℕ) → leb 11 number ≡ false → Evidence model opening o (refused number (zeros 0))
-  unfolding zeros
-  refused-early (volatility k t v) number h = refl
-  refused-early (priced kind k t market) number h = record { zeros = refl; evaluations = rw h; few = omega arith }
-
-  evidence-by : (o : Offer) (short all-heard full : Bool) (r : Outcome Values) → Evidence model opening o r → Evidence model opening o (replied short all-heard full r)
-  evidence-by o true h f r e = refused-early o 1 refl
-  evidence-by o false true f r e = refused-early o 3 refl
-  evidence-by o false false true r e = refused-early o 4 refl
+  evidence-by : (o : Offer) (short all-heard full : Bool) (r : Outcome Solution) → Evidence model opening o r
+      → Evidence model opening o (replied short all-heard full r)
+  evidence-by o true h f r e = refused-early (pricesOf model opening o) (o .terms) 1 (early 1 (lit< tt) (lit< tt))
+  evidence-by o false true f r e = refused-early (pricesOf model opening o) (o .terms) 3 (early 3 (lit< tt) (lit< tt))
+  evidence-by o false false true r e = refused-early (pricesOf model opening o) (o .terms) 4 (early 4 (lit< tt) (lit< tt))
   evidence-by o false false false r e = e
 
   -- ---- all of it
-  pub record Once (l : Ledger) (t : Tally) (o : Offer) (r : Outcome Values) (t' : Tally) : Type 0 where
-    pub next : Next l t r (after l o r) t'
-    pub number : numberOf r ≡ numberFrom model opening (isShort was) t o
-    pub evidence : Evidence model opening o r
+  pub record Once (l : Ledger) (t : Tally) (o : Offer) (r : Outcome Solution) : Type 0 where
+    pub agree : Agree opening was (left l o r) (step model opening (isShort was) t o)
+    pub right : Right model opening (isShort was) t o r
 
-  pub once : (l : Ledger) (t : Tally) (o : Offer) → openRefusal opening ≡ none → Agree opening was l t
-      → Once l t o (offerOutcome model (l .columns) (l .book) o) (step model opening (isShort was) t o)
+  pub once : (l : Ledger) (t : Tally) (o : Offer) → openRefusal opening ≡ none → Agree opening was l t → Once l t o (reply model l o)
   unfolding step numberFrom
   once l t o ok a =
       let h = leb 60000 (t .heard) in
       let f = leb 1024 (length (t .quotes)) in
       let s = settles model opening o in
-      subst (λ (r : Outcome Values). Once l t o r (step model opening (isShort was) t o)) (sym (reply-is l t o ok a))
+      let n = next-by l t o (isShort was) h f (settled model opening o) (fate model opening o) refl refl refl (s .alike) a in
+      subst (λ (r : Outcome Solution). Once l t o r) (sym (reply-is l t o ok a))
       (record {
-        next = next-by l t o (isShort was) h f (settled model opening o) (fate model opening o) refl refl refl (s .alike) a;
-        number = sym (number-by (isShort was) h f _ (settled model opening o) (settled-number model opening o));
-        evidence = evidence-by o (isShort was) h f (settled model opening o) (s .evidence);
+        agree = n .agree;
+        right = record {
+          listed = n .listed;
+          accepted = n .accepted;
+          number = number-by (isShort was) h f _ (settled model opening o) (settled-number model opening o);
+          counted = n .counted;
+          evidence = evidence-by o (isShort was) h f (settled model opening o) (s .evidence);
+        };
       })

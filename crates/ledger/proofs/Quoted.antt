@@ -1,42 +1,28 @@
--- A column whose first entries are the listed quotes' values, in order, and whose others stand as at first; one more quote at its end. Assumes nothing.
-use mathlib.Core.Path.{_≡_, refl, sym, ap, _∙_}
-use Prim.Native.Nat.{ℕ, _+_, _<_}
+-- A column that holds the listed quotes' entries, in order, and behind them what stood there at first; one more quote at its end. Assumes nothing.
+use mathlib.Core.Path.{_≡_, sym, _∙_}
+use Prim.Native.Nat.{suc, _≤_, _<_}
 use native.Mathlib.Omega.{arith}
-use native.Mathlib.Numerals.{add-one}
 use mathlib.Core.Bool.{true}
 use mathlib.Core.List.{List, [], _∷_, _++_, map, map-append}
-use lib.ListN.{length, take, drop, set, length-set}
-use lib.Seq.{take-suc-set, drop-set-lt, drop-drop}
-use lib.Ieee.{Float}
+use lib.ListN.{length, take, drop, getD, set, length-map, length-append, length-drop}
+use lib.Seq.{take-at, drop-cons, set-at, append-snoc}
 use Rattle.floats.proofs.Tests.{and-left, and-right}
-use Rattle.chart.specs.Quotes.{Quote, sideBySide, inRange, allInRange}
+use Rattle.chart.specs.Quotes.{Quote, inRange, allInRange}
+use Rattle.ledger.specs.Claim.{columnOf}
 
-pub record Column (f : Quote → Float) (kept : ℕ) (qs : List Quote) (was column : List Float) : Type 0 where
-  pub front : take kept column ≡ map f qs
-  pub rest : drop kept column ≡ drop kept was
-  pub same-length : length column ≡ length was
+pub column-length : {X : Type 0} (f : Quote → X) (qs : List Quote) (was : List X) → length qs ≤ length was → length (columnOf f qs was) ≡ length was
+column-length f qs was h = simp (length-append, length-map, length-drop) (omega arith)
 
-pub column-start : (f : Quote → Float) (was : List Float) → Column f 0 [] was was
-column-start f was = record { front = refl; rest = refl; same-length = refl }
+pub column-front : {X : Type 0} (f : Quote → X) (qs : List Quote) (was : List X) → take (length qs) (columnOf f qs was) ≡ map f qs
+column-front f qs was = take-at (map f qs) (drop (length qs) was) (length qs) (length-map qs f)
 
-drop-more : (n : ℕ) (xs ys : List Float) → drop n xs ≡ drop n ys → drop (n + 1) xs ≡ drop (n + 1) ys
-drop-more n xs ys e = sym (drop-drop 1 n xs) ∙ ap (drop 1) e ∙ drop-drop 1 n ys
-
-pub column-grows : (f : Quote → Float) (kept : ℕ) (qs : List Quote) (was column : List Float) (q : Quote) (x : Float) → kept < length column → f q ≡ x → Column f kept qs was column
-    → Column f (kept + 1) (qs ++ (q ∷ [])) was (set column kept x)
-column-grows f kept qs was column q x h e c =
-    let l : kept < kept + 1 = omega arith in
-    record {
-      front = rw (add-one kept) (take-suc-set column kept x h ∙ rw (c .front, ← e) (sym (map-append f qs (q ∷ []))));
-      rest = drop-set-lt (kept + 1) column kept x l ∙ drop-more kept column was (c .rest);
-      same-length = length-set column kept x ∙ c .same-length;
-    }
-
--- three columns of the same quotes, read side by side, are the quotes
-pub read-back : (qs : List Quote) → sideBySide (map (λ (q : Quote). q .strike) qs) (map (λ (q : Quote). q .expiry) qs) (map (λ (q : Quote). q .volatility) qs) ≡ qs
-unfolding sideBySide
-read-back [] = refl
-read-back (q ∷ qs) = ap (λ (r : List Quote). q ∷ r) (read-back qs)
+pub column-grows : {X : Type 0} (f : Quote → X) (qs : List Quote) (was : List X) (q : Quote) → length qs < length was
+    → set (columnOf f qs was) (length qs) (f q) ≡ columnOf f (qs ++ (q ∷ [])) was
+column-grows f qs was q h =
+    let n = length qs in
+    let l : length (qs ++ (q ∷ [])) ≡ suc n = simp length-append (omega arith) in
+    rw (drop-cons was n (f q) h, l, map-append)
+    (set-at (map f qs) (getD was n (f q)) (drop (suc n) was) (f q) n (length-map qs f) ∙ sym (append-snoc (map f qs) (f q) (drop (suc n) was)))
 
 pub ranged-more : (qs : List Quote) (q : Quote) → inRange q ≡ true → allInRange qs ≡ true → allInRange (qs ++ (q ∷ [])) ≡ true
 unfolding allInRange

@@ -1,7 +1,7 @@
 -- The claim leaves no entry of a built surface open: two sets of buffers that meet it are the same. Cells that echo the first, a right-first neighbour or a
 -- write outside the surface therefore do not meet it. Assumes nothing.
 use mathlib.Core.Path.{_≡_, sym, ap, _∙_}
-use Prim.Native.Nat.{ℕ, _+_, _-_, _*_, _/_, _%_, _≤_, _<_}
+use Prim.Native.Nat.{ℕ, _+_, _*_, _/_, _%_, _≤_, _<_}
 use native.Mathlib.Nat.{div-add-mod, mod-lt}
 use native.Mathlib.Omega.{arith}
 use mathlib.Core.List.{List, _++_}
@@ -15,7 +15,7 @@ use Rattle.chart.specs.Quotes.{Quote}
 use Rattle.chart.specs.Cells.{axes, mean}
 use Rattle.floats.proofs.Tests.{split}
 use Rattle.ledger.specs.Build.{Buffers}
-use Rattle.ledger.specs.Claim.{Neighbour, left, right, rows, columns, countAt, SurfaceClaim}
+use Rattle.ledger.specs.Claim.{Neighbour, left, right, height, width, countAt, SurfaceClaim}
 
 -- ---- a column has one neighbour, and where a counted column stands to the left that is on the left
 pub left-first : (c : ℕ → ℕ) (w j k b : ℕ) → b < j → 0 < c b → Neighbour c w j k → k < j
@@ -56,8 +56,8 @@ by-cells d height width xs ys narrow same cells rest = ext-getD d xs ys same (λ
         (λ u. rest n (λ a b p q r. let f = ltb-false j width u in omega arith)))
         (λ t. rest n (λ a b p q r. let f = ltb-false i height t in omega arith))
 
-module _ (qs : List Quote) (s x y : Buffers) (narrow : columns qs s ≤ 64) (p : SurfaceClaim qs s x) (q : SurfaceClaim qs s y) where
-  same-cell : (i j : ℕ) → i < rows qs s → j < columns qs s → getD (x .grid) (cellAt i j) nan ≡ getD (y .grid) (cellAt i j) nan
+module _ (qs : List Quote) (s x y : Buffers) (narrow : width qs s ≤ 64) (p : SurfaceClaim qs s x) (q : SurfaceClaim qs s y) where
+  same-cell : (i j : ℕ) → i < height qs s → j < width qs s → getD (x .grid) (cellAt i j) nan ≡ getD (y .grid) (cellAt i j) nan
   same-cell i j a b =
       split (ltb 0 (countAt qs s i j))
       (λ t. let c = ltb-true 0 (countAt qs s i j) t in p .means i j a b c ∙ sym (q .means i j a b c))
@@ -69,10 +69,10 @@ module _ (qs : List Quote) (s x y : Buffers) (narrow : columns qs s ≤ 64) (p :
 
   pub surface-fixed : x ≡ y
   surface-fixed = λ i. record {
-    strikes = two-parts (columns qs s) (x .strikes) (y .strikes) (p .strikes ∙ sym (q .strikes)) (p .rest-strikes ∙ sym (q .rest-strikes)) i;
-    expiries = two-parts (rows qs s) (x .expiries) (y .expiries) (p .expiries ∙ sym (q .expiries)) (p .rest-expiries ∙ sym (q .rest-expiries)) i;
-    grid = by-cells nan (rows qs s) (columns qs s) (x .grid) (y .grid) narrow (p .same-lengths .0 ∙ sym (q .same-lengths .0)) same-cell
+    strikes = two-parts (width qs s) (x .strikes) (y .strikes) (p .strikes ∙ sym (q .strikes)) (p .rest-strikes ∙ sym (q .rest-strikes)) i;
+    expiries = two-parts (height qs s) (x .expiries) (y .expiries) (p .expiries ∙ sym (q .expiries)) (p .rest-expiries ∙ sym (q .rest-expiries)) i;
+    grid = by-cells nan (height qs s) (width qs s) (x .grid) (y .grid) narrow (p .same-lengths .0 ∙ sym (q .same-lengths .0)) same-cell
         (λ n o. p .rest-grid n o ∙ sym (q .rest-grid n o)) i;
-    counts = by-cells 0 (rows qs s) (columns qs s) (x .counts) (y .counts) narrow (p .same-lengths .1 ∙ sym (q .same-lengths .1))
+    counts = by-cells 0 (height qs s) (width qs s) (x .counts) (y .counts) narrow (p .same-lengths .1 ∙ sym (q .same-lengths .1))
         (λ i j a b. p .counts i j a b ∙ sym (q .counts i j a b)) (λ n o. p .rest-counts n o ∙ sym (q .rest-counts n o)) i;
   }

@@ -9,12 +9,27 @@ use Rattle.grid.specs.Search.{firstWhere}
 use Rattle.chart.proofs.Examples.{one-column, two-columns, one-cell}
 use Rattle.chart.specs.Axis.{insert, sortedInto, keptAfter, thinned, near}
 use Rattle.chart.specs.Cells.{axes, counted}
-use Rattle.ledger.specs.Twelve.{Holds, table, columns, all-three}
+use Rattle.ledger.specs.Twelve.{Holds, table, columnCounts, all-three}
 use mathlib.Core.List.{[], _∷_}
 
-three : columns all-three ≡ 2 ∷ 2 ∷ 1 ∷ []
+three : columnCounts all-three ≡ 2 ∷ 2 ∷ 1 ∷ []
 unfolding axes counted firstWhere near magnitude thinned sortedInto insert keptAfter lt sub round
 three = refl
 
 pub twelve : Holds table
-twelve = (normal.examples .root-of-a-quarter, (normal.examples .exp-of-zero, (normal.examples .exp-far-below, (normal.examples .ln-of-one, (normal.examples .cdf-of-zero, (row-filled, (one-cell, (one-column, (two-columns, (three, (brent.examples .refused-12, (brent.examples .found-10, tt))))))))))))
+twelve = (
+  normal.examples .root-of-a-quarter,
+  (
+    normal.examples .exp-of-zero,
+    (
+      normal.examples .exp-far-below,
+      (
+        normal.examples .ln-of-one,
+        (
+          normal.examples .cdf-of-zero,
+          (row-filled, (one-cell, (one-column, (two-columns, (three, (brent.examples .refused-12, (brent.examples .found-10, tt))))))),
+        ),
+      ),
+    ),
+  ),
+)

@@ -1,4 +1,5 @@
 pub mod Model
+pub mod Fold
 pub mod Tally
 pub mod Book
 pub mod Build

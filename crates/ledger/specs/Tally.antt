@@ -1,7 +1,7 @@
 -- Document 01, 'What demand 3 compares': the plain tally. It is fed the opening's inputs, whether 1 holds of the columns, and each offer's inputs; it
 -- reads no answer and nothing of a record. "Another model changes only" the prices.
 use Prim.Native.Nat.{ℕ, _+_}
-use mathlib.Core.Bool.{Bool, not, _||_}
+use mathlib.Core.Bool.{Bool, false, not, _||_}
 use mathlib.Core.List.{List, [], _∷_, _++_}
 use lib.Dec.{leb}
 use lib.ListN.{length}
@@ -12,17 +12,29 @@ use Rattle.limits.specs.Outcome.{done, refused}
 use Rattle.brent.specs.Outcome.{Reply, asking, ended}
 use Rattle.brent.specs.Run.{runWith}
 use Rattle.chart.specs.Quotes.{Quote}
-use Rattle.ledger.specs.Model.{Opening, Model, Offer, volatility, priced, strikeOf, expiryOf}
+use Rattle.greeks.specs.declared.OptionType.{OptionType}
+use Rattle.ledger.specs.Fold.{after}
+use Rattle.ledger.specs.Model.{Opening, Model}
+use Rattle.ledger.specs.declared.Offer.{Offer}
+use Rattle.ledger.specs.declared.Terms.{Terms}
+use Rattle.ledger.specs.declared.Terms.the-variants.{Volatility, Price}
 
 -- What becomes of an offer once 1 to 4 are passed: its quote is listed with this volatility, or it is turned down. Beside it, the prices obtained.
 pub data Fate : Type 0 where
   listed : Float → ℕ → Fate
   turned : ℕ → Fate
 
--- A check past 4 holds, the solver's apart: 7, 8 and 10, or 5, 7 and 8.
+-- A check past 4 holds, the solver's apart: 5, 7, 8 or 10. Of its own words, so that the book's have a second witness.
+abbrev isNoPrice : Terms → Bool
+isNoPrice (Volatility v) = false
+isNoPrice (Price kind market) = not (isPrice market)
+
+abbrev isNoVolatility : Terms → Bool
+isNoVolatility (Volatility v) = not (isVolatility v)
+isNoVolatility (Price kind market) = false
+
 unfoldable pub isBarred : Offer → Bool
-isBarred (volatility strike expiry v) = not (isStrike strike) || not (isExpiry expiry) || not (isVolatility v)
-isBarred (priced kind strike expiry market) = not (isPrice market) || not (isStrike strike) || not (isExpiry expiry)
+isBarred o = isNoPrice (o .terms) || not (isStrike (o .strike)) || not (isExpiry (o .expiry)) || isNoVolatility (o .terms)
 
 -- A solver's run: each price that it obtained counts. (It always ends: brent's theorem.)
 unfoldable pub fateOfRun : Reply → ℕ → Fate
@@ -31,12 +43,14 @@ fateOfRun (ended (refused number x) s) obtained = turned obtained
 fateOfRun (asking v s) obtained = turned obtained
 
 -- "A solver starts only where no earlier check holds."
+unfoldable pub fateOf : (OptionType → Float → Float) → Terms → Fate
+unfolding fateOfRun
+fateOf prices (Volatility v) = listed v 0
+fateOf prices (Price kind market) = let r = runWith market (prices kind) in fateOfRun (r .reply) (length (r .tried))
+
 unfoldable pub fate : Model → Opening → Offer → Fate
-unfolding isBarred fateOfRun
-fate model opening (volatility strike expiry v) = if isBarred (volatility strike expiry v) then turned 0 else listed v 0
-fate model opening (priced kind strike expiry market) =
-    let r = runWith market (model opening kind strike expiry) in
-    if isBarred (priced kind strike expiry market) then turned 0 else fateOfRun (r .reply) (length (r .tried))
+unfolding isBarred fateOf
+fate model opening o = if isBarred o then turned 0 else fateOf (λ kind. model opening kind (o .strike) (o .expiry)) (o .terms)
 
 -- "It holds a list of quotes, first empty, and heard, refused and evaluations, first 0."
 pub record Tally : Type 0 where
@@ -52,39 +66,32 @@ fresh = record { quotes = []; heard = 0; refused = 0; evaluations = 0 }
 unfoldable pub turnedDown : Tally → ℕ → Tally
 turnedDown t obtained = record { quotes = t .quotes; heard = t .heard + 1; refused = t .refused + 1; evaluations = t .evaluations + obtained }
 
+-- The quote of an offer, with the volatility offered or solved.
+abbrev pub quoteOf : Offer → Float → Quote
+quoteOf o v = record { strike = o .strike; expiry = o .expiry; volatility = v }
+
 unfoldable pub listedAt : Tally → Offer → Float → ℕ → Tally
 listedAt t o v obtained =
-    record { quotes = t .quotes ++ (record { strike = strikeOf o; expiry = expiryOf o; volatility = v } ∷ []); heard = t .heard + 1; refused = t .refused; evaluations = t .evaluations + obtained }
+    record {
+      quotes = t .quotes ++ (quoteOf o v ∷ []);
+      heard = t .heard + 1;
+      refused = t .refused;
+      evaluations = t .evaluations + obtained;
+    }
 
-unfoldable pub tallied : Tally → Offer → Fate → Tally
+unfoldable pub accounted : Tally → Offer → Fate → Tally
 unfolding turnedDown listedAt
-tallied t o (listed v obtained) = listedAt t o v obtained
-tallied t o (turned obtained) = turnedDown t obtained
+accounted t o (listed v obtained) = listedAt t o v obtained
+accounted t o (turned obtained) = turnedDown t obtained
 
 -- "Where 1 holds, or with 60,000 heard, an offer changes nothing. Any other offer adds one to heard. With 1,024 quotes in the list .. it adds one to refused."
 unfoldable pub step : Model → Opening → Bool → Tally → Offer → Tally
-unfolding tallied fate turnedDown
+unfolding accounted fate turnedDown
 step model opening short t o =
     if short || leb 60000 (t .heard) then t
     else (if leb 1024 (length (t .quotes)) then turnedDown t 0
-    else tallied t o (fate model opening o))
+    else accounted t o (fate model opening o))
 
 -- The tally of a list of offers.
-unfoldable pub tallyFrom : Model → Opening → Bool → Tally → List Offer → Tally
-unfolding step
-tallyFrom model opening short t [] = t
-tallyFrom model opening short t (o ∷ os) = tallyFrom model opening short (step model opening short t o) os
-
 abbrev pub tally : Model → Opening → Bool → List Offer → Tally
-tally model opening short os = tallyFrom model opening short fresh os
-
--- At which offers the list grew: the accepted ones, read off the tally alone.
-unfoldable pub grewFrom : Model → Opening → Bool → Tally → List Offer → List Bool
-unfolding step
-grewFrom model opening short t [] = []
-grewFrom model opening short t (o ∷ os) =
-    let next = step model opening short t o in
-    not (leb (length (next .quotes)) (length (t .quotes))) ∷ grewFrom model opening short next os
-
-abbrev pub grew : Model → Opening → Bool → List Offer → List Bool
-grew model opening short os = grewFrom model opening short fresh os
+tally model opening short os = after (step model opening short) fresh os

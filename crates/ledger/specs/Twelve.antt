@@ -10,9 +10,9 @@ use Rattle.normal.specs.Root.{sqrt}
 use Rattle.normal.specs.Exp.{exp}
 use Rattle.normal.specs.Ln.{ln}
 use Rattle.normal.specs.Normal.{cdf}
-use Rattle.brent.specs.Outcome.{Reply, ended, zeros}
+use Rattle.brent.specs.Outcome.{ended, zeros}
 use Rattle.brent.specs.Feed.{over}
-use Rattle.brent.specs.Run.{Run, run}
+use Rattle.brent.specs.Run.{run}
 use Rattle.grid.specs.Gaps.{swept}
 use Rattle.chart.specs.Quotes.{Quote}
 use Rattle.chart.specs.Axis.{axis}
@@ -51,8 +51,8 @@ abbrev pub all-three : List Quote
 all-three = quoted a (decimal 1 4) ∷ quoted b (decimal 1 4) ∷ quoted c (decimal 1 4) ∷ []
 
 -- Two columns, with the counts 2 and 1.
-abbrev pub columns : List Quote → List ℕ
-columns qs = length (axes qs .strikes) ∷ count (axes qs) 0 0 qs ∷ count (axes qs) 0 1 qs ∷ []
+abbrev pub columnCounts : List Quote → List ℕ
+columnCounts qs = length (axes qs .strikes) ∷ count (axes qs) 0 0 qs ∷ count (axes qs) 0 1 qs ∷ []
 
 abbrev pub table : List Row
 table =
@@ -65,8 +65,8 @@ table =
     ∷ row (cell (axes two-in-one) two-in-one 0 0) (decimal 3 8)
     ∷ row (axis (a ∷ b ∷ [])) (a ∷ [])
     ∷ row (axis (a ∷ c ∷ [])) (a ∷ c ∷ [])
-    ∷ row (columns all-three) (2 ∷ 2 ∷ 1 ∷ [])
+    ∷ row (columnCounts all-three) (2 ∷ 2 ∷ 1 ∷ [])
     ∷ row (run (decimal 1 1) (decimal 1 2 ∷ decimal 1 4 ∷ []) .reply) (ended (refused 12 (zeros 2)) over)
     ∷ row (run (decimal 1 1) (decimal 1 2 ∷ decimal 1 1 ∷ []) .reply)
-    (ended (done (record { volatility = decimal 10 1; error = decimal 0 1; c = decimal 1 1000000; c-error = neg (decimal 1 2); evaluations = 2 })) over)
+    (ended (done (record { volatility = decimal 10 1; error = decimal 0 1; c = decimal 1 1000000; «c_error» = neg (decimal 1 2); evaluations = 2 })) over)
     ∷ []

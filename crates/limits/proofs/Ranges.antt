@@ -1,14 +1,15 @@
 -- What a value in range is. Assumes nothing.
-use mathlib.Core.Path.{_≡_, refl, sym, subst}
-use mathlib.Core.Bool.{Bool, true, _&&_}
+use mathlib.Core.Path.{_≡_}
+use mathlib.Core.Bool.{true, _&&_}
 use lib.Dec.{T}
-use lib.Ieee.{Float, le, round, neg}
+use lib.Ieee.{Float, round}
 use lib.Ieee.Fits.{and-l, and-r}
+use lib.Ieee.Bits.{is-true}
 use lib.Ieee.Positive.{positive, between, positive-finite}
 use Rattle.floats.specs.Operators.{decimal, _≼_}
 use Rattle.floats.specs.Values.{finite}
 use Rattle.floats.proofs.Tests.{holds}
-use Rattle.limits.specs.Ranges.{within, isSpot, isStrike, isExpiry, isVolatility, isPrice, lowestVolatility, highestVolatility}
+use Rattle.limits.specs.Ranges.{within, isSpot, isExpiry, isVolatility, lowestVolatility, highestVolatility}
 
 pub at-least : (lo hi x : Float) → within lo hi x ≡ true → T (lo ≼ x)
 unfolding within
@@ -30,3 +31,6 @@ expiry-positive t h = positive-within (decimal 1 1000000) (decimal 100 1) t (unf
 
 pub volatility-positive : (v : Float) → isVolatility v ≡ true → T (positive v)
 volatility-positive v h = positive-within lowestVolatility highestVolatility v (unfold round in tt) (unfold round in tt) h
+
+pub volatility-finite : (v : Float) → isVolatility v ≡ true → finite v ≡ true
+volatility-finite v h = is-true (finite v) (positive-finite v (volatility-positive v h))

@@ -6,19 +6,23 @@ use native.Mathlib.Omega.{arith}
 use borrow.Author.Tests.{eq-eqb, ne-eqb}
 use lib.Ieee.{Float}
 use Rattle.limits.specs.Checks.{none}
-use Rattle.limits.specs.Outcome.{Outcome, done, refused}
+use Rattle.limits.specs.Outcome.{Outcome, done, refused, answered}
 use Rattle.greeks.specs.declared.OptionType.the-variants as OptionType
-use Rattle.ledger.specs.Model.{Opening, bsm, Offer, volatility, priced}
-use Rattle.ledger.specs.Book.{Columns, zeroBook, fresh, openRefusal, opened, offerOutcome}
+use Rattle.ledger.specs.Model.{Opening, bsm}
+use Rattle.ledger.specs.declared.Offer.{Offer}
+use Rattle.ledger.specs.declared.Terms.{Terms}
+use Rattle.ledger.specs.declared.Terms.the-variants.{Volatility, Price}
+use Rattle.ledger.specs.Book.{zeroBook, fresh, openRefusal, opened}
 use Rattle.ledger.specs.Build.{buildOutcome, buffersAfter}
-use Rattle.ledger.specs.Claim.{Ledger, hear, hearAll}
-use Rattle.frames.specs.Session.{bookAfter}
+use Rattle.ledger.specs.Fold.{after}
+use Rattle.ledger.specs.Claim.{Ledger, hear, reply}
+use Rattle.frames.specs.Session.{Told, bookAfter}
 use Rattle.frames.specs.declared.Frame.the-variants.{Open, Read}
 use Rattle.frames.proofs.Claims.{streamed}
-use Rattle.lines.specs.Hear.{ledger, said, bookOf, opens, offers, blank, readOf, reads, hears}
-use Rattle.lines.specs.Claims.{Roomy, Parts, lineOfOffer, Program}
+use Rattle.lines.specs.Hear.{ledger, said, opens, offers, blank, readOf, reads, askedBy, answers, hears}
+use Rattle.lines.specs.Claims.{Roomy, Parts, lineOfTerms, lineOfOffer, Program}
 use Rattle.lines.proofs.Numbers.{tabled}
-use Rattle.lines.proofs.Programs.{fed-within, finished-within, any-calls, one-call}
+use Rattle.lines.proofs.Programs.{fed-within, finished-within, any-calls}
 
 said-book : {X : Type 0} (l : Ledger) (value : X → Float) (o : Outcome X) → said l value o .book ≡ l
 unfolding said
@@ -26,26 +30,31 @@ said-book l value (done x) = refl
 said-book l value (refused number x) = refl
 
 read-only : (l : Ledger) (strike expiry : Float) → hears l (Read strike expiry) .book ≡ l
-unfolding hears reads
+unfolding hears askedBy answers reads
 read-only l strike expiry =
     said-book l (λ (x : Float). x) (readOf (buffersAfter (l .book) (l .columns) blank) strike expiry (buildOutcome (l .book) (l .columns) blank))
 
 shut : (l : Ledger) (o : Opening) → (openRefusal o ≡ none → ⊥) → hears l (Open (o .spot) (o .rate)) .book ≡ ledger zeroBook (l .columns)
-unfolding hears opens opened bookOf
+unfolding hears askedBy answers opens opened answered
 shut l o n = said-book _ _ (opened o) ∙ rw (ne-eqb (openRefusal o) none n)
 
 accepted : (l : Ledger) (o : Opening) → openRefusal o ≡ none → hears l (Open (o .spot) (o .rate)) .book ≡ ledger (fresh o) (l .columns)
-unfolding hears opens opened bookOf
+unfolding hears askedBy answers opens opened answered
 accepted l o e = said-book _ _ (opened o) ∙ rw (eq-eqb (openRefusal o) none e)
 
-one : (l : Ledger) (o : Offer) → hears l (lineOfOffer o) .book ≡ hear bsm l o
-unfolding hears offers lineOfOffer
-one l (volatility strike expiry v) = said-book (hear bsm l (volatility strike expiry v)) _ (offerOutcome bsm (l .columns) (l .book) (volatility strike expiry v))
-one l (priced OptionType.Call strike expiry price) = said-book _ _ (offerOutcome bsm (l .columns) (l .book) (priced OptionType.Call strike expiry price))
-one l (priced OptionType.Put strike expiry price) = said-book _ _ (offerOutcome bsm (l .columns) (l .book) (priced OptionType.Put strike expiry price))
+line-of : (l : Ledger) (strike expiry : Float) (terms : Terms)
+    → hears l (lineOfTerms strike expiry terms) ≡ offers l (record { strike = strike; expiry = expiry; terms = terms })
+unfolding hears askedBy answers
+line-of l strike expiry (Volatility v) = refl
+line-of l strike expiry (Price OptionType.Call price) = refl
+line-of l strike expiry (Price OptionType.Put price) = refl
 
-tray : (l : Ledger) (os : List Offer) → bookAfter hears l (map lineOfOffer os) ≡ hearAll bsm l os
-unfolding bookAfter hearAll
+one : (l : Ledger) (o : Offer) → hears l (lineOfOffer o) .book ≡ hear bsm l o
+unfolding offers
+one l o = ap (λ (h : Told Ledger). h .book) (line-of l (o .strike) (o .expiry) (o .terms)) ∙ said-book _ _ (reply bsm l o)
+
+tray : (l : Ledger) (os : List Offer) → bookAfter hears l (map lineOfOffer os) ≡ after (hear bsm) l os
+unfolding bookAfter after
 tray l [] = refl
 tray l (o ∷ os) = ap (λ (z : Ledger). bookAfter hears z (map lineOfOffer os)) (one l o) ∙ tray (hear bsm l o) os
 
@@ -54,13 +63,12 @@ roomy [] h = omega arith
 roomy (chunk ∷ chunks) h = (omega (arith, h .0), roomy chunks (h .1))
 
 pub program : Program
-unfolding hears
+unfolding hears askedBy answers
 program =
     record {
       streamed = streamed hears;
       calls = any-calls;
       roomy = roomy;
-      at-once = one-call;
       within = λ s c chunk out. (fed-within s c chunk out, finished-within s c out);
       numbers = tabled;
       bad-21 = λ l. refl;

@@ -1,133 +1,145 @@
 -- The moves of the program: frames' laws for this book, and the line that is held. Assumes nothing.
 use mathlib.Core.Path.{_≡_, refl, sym, ap, _∙_}
-use mathlib.Core.List.{List}
-use Prim.Native.Nat.{ℕ, suc, _+_, _≤_, _<_}
-use native.Mathlib.Numerals.{add-one}
+use mathlib.Core.List.{List, [], _∷_}
+use Prim.Native.Nat.{ℕ, _+_, _*_, _≤_, _<_}
 use native.Mathlib.Omega.{arith}
-use borrow.Author.Tests.{eq-eqb, ne-eqb}
-use lib.ListN.{length, take, drop, getD}
-use lib.Seq.{paste, drop-cons, drop-length, length-take-le}
+use lib.Dec.{eqb}
+use lib.ListN.{length, take, drop}
+use lib.Seq.{paste, drop-drop}
+use Rattle.floats.proofs.Tests.{split}
 use Rattle.ledger.specs.Book.{Columns}
 use Rattle.ledger.specs.Claim.{Ledger}
+use Rattle.ledger.proofs.Lengths.{SameLengths, at-first, and-then}
 use Rattle.frames.specs.Hex.{answerLine}
 use Rattle.frames.specs.Frames.{frameOf}
-use Rattle.frames.specs.Lines.{held, noLine, pushed, cap}
-use Rattle.frames.specs.Session.{Heard, Session, feed, step, ended, finish}
+use Rattle.frames.specs.Lines.{held, noLine, pushed, cap, through, lineIn, taken, feedIn, feeds}
+use Rattle.frames.specs.Session.{Session, feed, finish}
 use Rattle.frames.specs.Moves.{Place, sessionOf, Moved}
 use Rattle.frames.specs.declared.Frame.{Frame}
 use Rattle.frames.specs.declared.Line.{Line}
-use Rattle.frames.proofs.Moves.{text-ended, moved-ended, moved-feed, moved-pushed, moved-none, moved-last, room-last, Going, going-start, going-step, going-end}
-use Rattle.lines.specs.Hear.{ledger, hears}
-use Rattle.lines.specs.Calls.{AnswersLine, lineStep, lineAfter}
-use Rattle.lines.specs.Moves.{heardOf, Room, Goes}
+use Rattle.frames.specs.declared.Taken.{Taken}
+use Rattle.frames.proofs.Moves.{moved-ended, moved-none, moved-last, Going, going-start, with-line, going-line, going-rest}
+use Rattle.lines.specs.Hear.{ledger, askedBy, answers, hears}
+use Rattle.lines.specs.Calls.{lineStep, lineAfter}
+use Rattle.lines.specs.Moves.{heardOf, place, LineEnded}
+use Rattle.lines.specs.declared.Asked.{Asked}
+use Rattle.lines.specs.declared.Progress.{Progress}
 use Rattle.lines.specs.declared.Said.{Said}
-use Rattle.lines.proofs.Lengths.{next-room}
 
 -- ---- a line
 
-pub line-answered : (l : Ledger) (line : List ℕ) (f : Frame) (r : Said) (c : Columns) (t : List ℕ) → f ≡ frameOf line → heardOf r c ≡ hears l f →
-    t ≡ answerLine (r .number) (r .value) → AnswersLine l line (record { book = r .book; text = t }) c
-line-answered l line f r c t e h w =
-    let g = h ∙ ap (hears l) e in
-    record { text = w ∙ ap (λ (z : Heard Ledger). answerLine (z .number) (z .value)) g; ledger = ap (λ (z : Heard Ledger). z .book) g }
-
-pub goes-ended : (p : Place Ledger) (f : Frame) (r : Said) (c : Columns) (t out : List ℕ) (line : Line) → f ≡ frameOf (held (p .line)) →
-    heardOf r c ≡ hears (p .book) f → t ≡ answerLine (r .number) (r .value) → out ≡ paste (p .out) (p .at) t 19 → line ≡ noLine → p .at + 19 ≤ length (p .out) →
-    Goes (ended hears (sessionOf p)) noLine p (record { book = ledger (r .book) c; line = line; at = p .at + 19; out = out })
-goes-ended p f r c t out line e h w o n room =
+pub line-ended : (p : Place Ledger) (f : Frame) (a : Asked) (r : Said) (c : Columns) (t out : List ℕ) (line : Line) → f ≡ frameOf (held (p .line))
+    → a ≡ askedBy f →
+    heardOf r c ≡ answers (p .book) a → t ≡ answerLine (r .number) (r .value) → out ≡ paste (p .out) (p .at) t 19 → line ≡ noLine
+    → p .at + 19 ≤ length (p .out) →
+    LineEnded p (record { book = ledger (r .book) c; line = line; at = p .at + 19; out = out })
+unfolding hears
+line-ended p f a r c t out line e q h w o n room =
     rw n
     (record {
-      moved = moved-ended hears p (heardOf r c) out (h ∙ ap (hears (p .book)) e) (o ∙ ap (λ (z : List ℕ). paste (p .out) (p .at) z 19) w) room;
+      moved = moved-ended hears p (heardOf r c) out (h ∙ ap (answers (p .book)) (q ∙ ap askedBy e))
+          (o ∙ ap (λ (z : List ℕ). paste (p .out) (p .at) z 19) w) room;
       held = refl;
     })
 
--- ---- a byte
+-- ---- the line that is held after a chunk
 
-pub goes-feed : (p r : Place Ledger) (c : ℕ) → c ≡ 10 → Goes (ended hears (sessionOf p)) noLine p r → Goes (step hears (sessionOf p) c) (lineStep (p .line) c) p r
-unfolding lineStep
-goes-feed p r c e g = record { moved = moved-feed hears p r c e (g .moved); held = rw (eq-eqb c 10 e) (g .held) }
+after-line : (cs : List ℕ) (l : Line) → 0 < feeds cs → lineAfter noLine (drop (through cs) cs) ≡ lineAfter l cs
+unfolding lineAfter lineStep feeds feedIn through
+after-line [] l h = absurd (omega arith)
+after-line (c ∷ cs) l h =
+    split (eqb c 10)
+    (λ t. rw t refl)
+    (λ t.
+    let g : 0 < feeds cs = omega (arith, rw t at h) in
+    rw t (after-line cs (pushed l c) g))
 
-pub goes-pushed : (p : Place Ledger) (c : ℕ) (line : Line) → (c ≡ 10 → ⊥) → line ≡ pushed (p .line) c → length (p .line .bytes) ≡ cap → p .at ≤ length (p .out) →
-    Goes (step hears (sessionOf p) c) (lineStep (p .line) c) p (record { book = p .book; line = line; at = p .at; out = p .out })
-unfolding lineStep
-goes-pushed p c line n e k w = record { moved = moved-pushed hears p c line n e k w; held = rw (ne-eqb c 10 n) e }
+after-rest : (cs : List ℕ) (l : Line) → feeds cs ≡ 0 → lineIn l cs ≡ lineAfter l cs
+unfolding lineAfter lineStep feeds feedIn lineIn
+after-rest [] l h = refl
+after-rest (c ∷ cs) l h =
+    split (eqb c 10)
+    (λ t. absurd (omega (arith, rw t at h)))
+    (λ t.
+    let g : feeds cs ≡ 0 = omega (arith, rw t at h) in
+    rw t (after-rest cs (pushed l c) g))
 
--- Room for the text after a line feed is room for a line.
-pub room-ended : (p : Place Ledger) (c : ℕ) → c ≡ 10 → Room (step hears (sessionOf p) c) p → p .at + 19 ≤ length (p .out)
-unfolding step
-room-ended p c e r =
-    let w : length (ended hears (sessionOf p) .text) ≤ length (p .out) = rw (eq-eqb c 10 e) at (r .whole) in
-    omega (arith, text-ended hears (sessionOf p), length-take-le (p .at) (p .out) (r .text))
+-- ---- a chunk, by a loop over its lines
 
--- ---- a chunk, by a loop over its bytes
-
-pub record Chunking (p : Place Ledger) (chunk : List ℕ) (t : Place Ledger) (i : ℕ) : Type 0 where
-  pub going : Going hears p chunk t i
+pub record Hearing (p : Place Ledger) (chunk : List ℕ) (t : Place Ledger) (i n : ℕ) : Type 0 where
+  pub going : Going hears p chunk t i n
   pub held : lineAfter (t .line) (drop i chunk) ≡ lineAfter (p .line) chunk
-  pub strikes : length (t .book .columns .strikes) ≡ length (p .book .columns .strikes)
-  pub expiries : length (t .book .columns .expiries) ≡ length (p .book .columns .expiries)
-  pub volatilities : length (t .book .columns .volatilities) ≡ length (p .book .columns .volatilities)
+  pub lengths : SameLengths (p .book .columns) (t .book .columns)
 
-pub chunking-start : (p : Place Ledger) (chunk : List ℕ) → p .at ≤ length (p .out) → Chunking p chunk p 0
-chunking-start p chunk h =
-    record { going = going-start hears p chunk h; held = refl; strikes = refl; expiries = refl; volatilities = refl }
+pub hearing-start : (p : Place Ledger) (chunk : List ℕ) → p .at ≤ length (p .out) → length (p .line .bytes) ≡ cap → Hearing p chunk p 0 0
+hearing-start p chunk h k = record { going = going-start hears p chunk h k; held = refl; lengths = at-first (p .book .columns) }
 
-pub chunking-step : (p t r : Place Ledger) (chunk : List ℕ) (i : ℕ) → i < length chunk → Chunking p chunk t i →
-    Goes (step hears (sessionOf t) (getD chunk i 0)) (lineStep (t .line) (getD chunk i 0)) t r →
-    length (r .book .columns .strikes) ≡ length (t .book .columns .strikes) →
-    length (r .book .columns .expiries) ≡ length (t .book .columns .expiries) →
-    length (r .book .columns .volatilities) ≡ length (t .book .columns .volatilities) → Chunking p chunk r (i + 1)
-unfolding lineAfter
-chunking-step p t r chunk i h g m k e v =
+-- a line is left where fewer were heard than the chunk ends, and there is room for its answer
+pub to-hear : (p t : Place Ledger) (chunk : List ℕ) (i n : ℕ) → n < feeds chunk → Hearing p chunk t i n → 0 < feeds (drop i chunk)
+to-hear p t chunk i n h g = omega (arith, g .going .left)
+
+pub room-for : (p t : Place Ledger) (chunk : List ℕ) (i n : ℕ) → n < feeds chunk → p .at + 19 * feeds chunk ≤ length (p .out) → Hearing p chunk t i n
+    → t .at + 19 ≤ length (t .out)
+room-for p t chunk i n h room g = omega (arith, g .going .counted, g .going .size)
+
+pub hearing-line : (p t r : Place Ledger) (chunk : List ℕ) (i n : ℕ) → n < feeds chunk → Hearing p chunk t i n →
+    LineEnded (with-line hears t (taken (t .line) chunk i .line)) r → SameLengths (t .book .columns) (r .book .columns) → Hearing p chunk r
+    (taken (t .line) chunk i .next) (n + 1)
+unfolding taken
+hearing-line p t r chunk i n h g e s =
+    let cs = drop i chunk in
+    let some = to-hear p t chunk i n h g in
     record {
-      going = going-step hears p t r chunk i h (g .going) (m .moved);
-      held = ap (λ (l : Line). lineAfter l (drop (i + 1) chunk)) (m .held)
-          ∙ ap (λ (n : ℕ). lineAfter (lineStep (t .line) (getD chunk i 0)) (drop n chunk)) (add-one i)
-          ∙ ap (lineAfter (t .line)) (sym (drop-cons chunk i 0 h)) ∙ g .held;
-      strikes = k ∙ g .strikes;
-      expiries = e ∙ g .expiries;
-      volatilities = v ∙ g .volatilities;
+      going = going-line hears p t r chunk i n some (g .going) (e .moved) (e .held);
+      held = rw (e .held, ← drop-drop (through cs) i chunk) (after-line cs (t .line) some ∙ g .held);
+      lengths = and-then (g .lengths) s;
     }
 
-pub chunking-end : (p t : Place Ledger) (chunk : List ℕ) (i : ℕ) → length chunk ≤ i → Chunking p chunk t i →
-    Goes (feed hears (sessionOf p) chunk) (lineAfter (p .line) chunk) p t
-unfolding lineAfter
-chunking-end p t chunk i h g =
-    let z : i ≡ length chunk = omega (arith, g .going .index) in
-    record {
-      moved = going-end hears p t chunk i h (g .going);
-      held = sym (ap (lineAfter (t .line)) (ap (λ (k : ℕ). drop k chunk) z ∙ drop-length chunk)) ∙ g .held;
-    }
+pub record Goes (to : Session Ledger) (line : Line) (p r : Place Ledger) : Type 0 where
+  pub moved : Moved to p r
+  pub held : r .line ≡ line
 
--- Room for the whole chunk is room for each byte of it.
-pub chunking-room : (p t : Place Ledger) (chunk : List ℕ) (i : ℕ) → i < length chunk → Chunking p chunk t i → Room (feed hears (sessionOf p) chunk) p →
-    Room (step hears (sessionOf t) (getD chunk i 0)) t
-chunking-room p t chunk i h g r =
-    record { text = g .going .within; whole = next-room t chunk i h (rw (g .going .to-come, g .going .size) (r .whole)) }
+pub hearing-rest : (p t : Place Ledger) (chunk : List ℕ) (i n : ℕ) → feeds chunk ≤ n → Hearing p chunk t i n →
+    Goes (feed hears (sessionOf p) chunk) (lineAfter (p .line) chunk) p (with-line hears t (taken (t .line) chunk i .line))
+unfolding taken
+hearing-rest p t chunk i n h g =
+    let none : feeds (drop i chunk) ≡ 0 = omega (arith, g .going .left) in
+    record { moved = going-rest hears p t chunk i n none (g .going); held = after-rest (drop i chunk) (t .line) none ∙ g .held }
+
+-- the same, of what the calls of a turn return
+module _ (p₀ : Place Ledger) (chunk : List ℕ) (p : Progress) (c : Columns) (out : List ℕ) (i n : ℕ) (t : Taken) (q : Progress)
+    (t-is : t ≡ taken (p .line) chunk i) (q-is : q ≡ record { book = p .book; line = t .line; at = p .at }) (h : Hearing p₀ chunk (place p c out) i n) where
+  pub turn-room : n < feeds chunk → p₀ .at + 19 * feeds chunk ≤ length (p₀ .out) → q .at + 19 ≤ length out
+  turn-room k room =
+      let e : q .at ≡ p .at = ap (λ (z : Progress). z .at) q-is in
+      omega (arith, room-for p₀ (place p c out) chunk i n k room h)
+
+  pub turn : (r : Progress) (c' : Columns) (out' : List ℕ) → n < feeds chunk → LineEnded (place q c out) (place r c' out') → SameLengths c c' →
+      Hearing p₀ chunk (place r c' out') (t .next) (n + 1)
+  turn r c' out' k g s =
+      let w : LineEnded (with-line hears (place p c out) (taken (p .line) chunk i .line)) (place r c' out') = rw (q-is, t-is) at g in
+      rw t-is (hearing-line p₀ (place p c out) (place r c' out') chunk i n k h w s)
+
+  pub last-turn : feeds chunk ≤ n → Goes (feed hears (sessionOf p₀) chunk) (lineAfter (p₀ .line) chunk) p₀ (place q c out)
+  last-turn k = rw (q-is, t-is) (hearing-rest p₀ (place p c out) chunk i n k h)
 
 -- ---- the end of the input
 
-pub goes-last : (p r : Place Ledger) → length (p .line .bytes) ≡ cap → (p .line .seen ≡ 0 → ⊥) → Goes (ended hears (sessionOf p)) noLine p r →
-    Goes (finish hears (sessionOf p)) noLine p r
+pub goes-last : (p r : Place Ledger) → length (p .line .bytes) ≡ cap → (p .line .seen ≡ 0 → ⊥) → LineEnded p r → Goes (finish hears (sessionOf p)) noLine p r
 goes-last p r k n g = record { moved = moved-last hears p r k n (g .moved); held = g .held }
 
-pub room-for-last : (p : Place Ledger) → length (p .line .bytes) ≡ cap → (p .line .seen ≡ 0 → ⊥) → Room (finish hears (sessionOf p)) p → p .at + 19 ≤ length (p .out)
-room-for-last p k n r = room-last hears p k n (r .text) (r .whole)
-
-pub goes-none : (p : Place Ledger) (line : Line) → p .line .seen ≡ 0 → line ≡ noLine → p .at ≤ length (p .out) →
-    Goes (finish hears (sessionOf p)) noLine p (record { book = p .book; line = line; at = p .at; out = p .out })
-goes-none p line e n w =
+pub goes-none : (p : Place Ledger) → p .line .seen ≡ 0 → p .at ≤ length (p .out) → Goes (finish hears (sessionOf p)) noLine p (with-line hears p noLine)
+goes-none p e w =
     let m = moved-none hears p e w in
-    let q : Session Ledger = sessionOf p in
-    rw n
-    (record {
+    record {
       moved =
           record {
-            session = ap (λ (z : List ℕ). record { book = p .book; part = z; text = take (p .at) (p .out) }) (sym (ap (λ (k : ℕ). take k (p .line .bytes)) e)) ∙ m .session;
+            session = ap (λ (z : List ℕ). record { book = p .book; part = z; text = take (p .at) (p .out) })
+                (sym (ap (λ (k : ℕ). take k (p .line .bytes)) e)) ∙ m .session;
             rest = refl;
             size = refl;
             from = m .from;
             within = w;
           };
       held = refl;
-    })
+    }

@@ -4,32 +4,33 @@ use Prim.Native.Nat.{ℕ}
 use lib.Ieee.{Float}
 use Rattle.floats.specs.Operators.{decimal}
 use Rattle.limits.specs.Outcome.{Outcome, done, refused}
-use Rattle.brent.specs.Outcome.{Values}
+use Rattle.brent.specs.declared.Solution.{Solution}
 use Rattle.greeks.specs.Implied.{outcomeOfImplied}
 use Rattle.grid.specs.Readings.{reading, readOutcome}
 use Rattle.grid.specs.declared.Reading.{Reading}
 use Rattle.chart.specs.Build.{outcome}
 use Rattle.chart.specs.declared.Built.{Built}
 use Rattle.chart.specs.declared.Built.the-variants as Built
-use Rattle.ledger.specs.Model.{bsm, Offer}
-use Rattle.ledger.specs.Book.{Columns, offerOutcome}
+use Rattle.ledger.specs.Model.{bsm}
+use Rattle.ledger.specs.Book.{Columns}
 use Rattle.ledger.specs.Calls.{Offers}
 use Rattle.ledger.specs.Build.{Buffers, buildOutcome, buffersAfter, BuildsBook}
 use Rattle.ledger.specs.Claim.{Ledger, hear}
 use Rattle.ledger.specs.declared.Heard.{Heard}
+use Rattle.ledger.specs.declared.Offer.{Offer}
 use Rattle.lines.specs.Hear.{ledger, said, offers, blank, readOf, reads}
 use Rattle.lines.specs.Moves.{heardOf}
 use Rattle.lines.specs.declared.Said.{Said}
 
-abbrev volatilityIn : Values → Float
+abbrev volatilityIn : Solution → Float
 volatilityIn x = x .volatility
 
 pub offered : (l : Ledger) (o : Offer) (h : Heard) (c : Columns) (r : Said) → Offers bsm (l .book) (l .columns) o h c →
-    ((k : Columns) → heardOf r k ≡ said (ledger (h .book) k) (λ (x : Values). x .volatility) (outcomeOfImplied (h .answer))) → heardOf r c ≡ offers l o
+    ((k : Columns) → heardOf r k ≡ said (ledger (h .book) k) (λ (x : Solution). x .volatility) (outcomeOfImplied (h .answer))) → heardOf r c ≡ offers l o
 unfolding offers hear
 offered l o h c r f s =
-    let led : ledger (h .book) c ≡ hear bsm l o = rw (f .book, f .columns) in
-    s c ∙ ap (λ (z : Ledger). said z volatilityIn (outcomeOfImplied (h .answer))) led ∙ ap (said (hear bsm l o) volatilityIn) (f .outcome)
+    let led : ledger (h .book) c ≡ hear bsm l o = rw (f .replies .book, f .columns) in
+    s c ∙ ap (λ (z : Ledger). said z volatilityIn (outcomeOfImplied (h .answer))) led ∙ ap (said (hear bsm l o) volatilityIn) (f .replies .outcome)
 
 abbrev itself : Float → Float
 itself x = x

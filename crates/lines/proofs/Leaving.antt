@@ -1,7 +1,7 @@
 -- What the private functions reach, as what the public ones leave. Assumes nothing.
-use mathlib.Core.Path.{_≡_, refl, sym, ap, _∙_}
+use mathlib.Core.Path.{_≡_, sym, ap, _∙_}
 use mathlib.Core.Bool.{true}
-use mathlib.Core.List.{List, [], _++_}
+use mathlib.Core.List.{List, _++_}
 use Prim.Native.Nat.{ℕ, _*_, _/_, _≤_, _<_}
 use native.Mathlib.Omega.{arith}
 use borrow.Author.Tests.{le-ltb}
@@ -10,20 +10,20 @@ use lib.ListN.{length, drop, take-append-drop}
 use Rattle.ledger.specs.Book.{Columns}
 use Rattle.ledger.specs.Claim.{Ledger}
 use Rattle.ledger.specs.declared.Book.{Book}
-use Rattle.frames.specs.Lines.{unended, lines, held, noLine}
-use Rattle.frames.specs.Session.{Session, output, bookLeft, feed, finish}
-use Rattle.frames.specs.Moves.{Place, sessionOf, Moved, Answered}
+use Rattle.frames.specs.Lines.{unended, held, noLine, feeds}
+use Rattle.frames.specs.Session.{Session, feed, finish}
+use Rattle.frames.specs.Moves.{Place, sessionOf}
 use Rattle.frames.specs.declared.Line.{Line}
-use Rattle.frames.proofs.Moves.{text-size, first, room-whole, answered}
+use Rattle.frames.proofs.Moves.{text-size}
 use Rattle.lines.specs.Hear.{ledger, hears}
-use Rattle.lines.specs.Calls.{session, lineAfter, feeds, state, Left, left, wrote, ifRoom, fed, finished, allAnswered}
-use Rattle.lines.specs.Moves.{place, Room, Goes}
+use Rattle.lines.specs.Calls.{session, lineAfter, state, Left, left, wrote, ifRoom, fed, finished}
+use Rattle.lines.specs.Moves.{place}
 use Rattle.lines.specs.declared.State.{State}
 use Rattle.lines.specs.declared.Progress.{Progress}
 use Rattle.lines.specs.declared.Fed.{Fed}
 use Rattle.lines.specs.declared.Text.the-variants.{Written, Short}
-use Rattle.lines.proofs.Counting.{few-feeds}
-use Rattle.lines.proofs.Lengths.{fed-size, finished-size, too-short}
+use Rattle.lines.proofs.Lengths.{too-short}
+use Rattle.lines.proofs.Going.{Goes}
 
 -- ---- the buffer at the end
 
@@ -52,30 +52,31 @@ pub with-room : (n : ℕ) (s : State) (c : Columns) (out : List ℕ) (x : Left) 
 unfolding ifRoom
 with-room n s c out x h = rw (le-ltb (length out) (19 * n) h)
 
--- ---- the three calls
+-- ---- the two calls
 
 abbrev pub begin : State → Columns → List ℕ → Place Ledger
 begin s c out = record { book = ledger (s .book) c; line = s .line; at = 0; out = out }
 
+abbrev pub begun : State → Progress
+begun s = record { book = s .book; line = s .line; at = 0 }
+
 abbrev pub writtenBy : Progress → Fed
 writtenBy r = record { state = state (r .book) (r .line); text = Written (r .at) }
 
-pub chunk-short : (s : State) (c : Columns) (chunk out : List ℕ) (n : ℕ) (r : Fed) → n ≡ feeds chunk → length out / 19 < n → r ≡ record { state = s; text = Short n } →
+pub chunk-short : (s : State) (c : Columns) (chunk out : List ℕ) (n : ℕ) (r : Fed) → n ≡ feeds chunk → length out / 19 < n
+    → r ≡ record { state = s; text = Short n } →
     left r c out ≡ fed s c chunk out
 unfolding fed
 chunk-short s c chunk out n r e h w =
     rw (w, e) (no-room (feeds chunk) s c out _ (too-short (length out) (feeds chunk) (rw e at h)))
 
-pub chunk-room : (s : State) (c : Columns) (chunk out : List ℕ) (n : ℕ) → n ≡ feeds chunk → n ≤ length out / 19 →
-    Room (feed hears (sessionOf (begin s c out)) chunk) (begin s c out)
-chunk-room s c chunk out n e h =
-    record { text = omega arith; whole = omega (arith, fed-size (session s c) chunk) }
-
-pub chunk-fed : (s : State) (c : Columns) (chunk out : List ℕ) (n : ℕ) (p : Progress) (c' : Columns) (out' : List ℕ) (r : Fed) → n ≡ feeds chunk → n ≤ length out / 19 →
-    Goes (feed hears (sessionOf (begin s c out)) chunk) (lineAfter (s .line) chunk) (begin s c out) (place p c' out') → r ≡ writtenBy p →
+pub chunk-fed : (s : State) (c : Columns) (chunk out : List ℕ) (n : ℕ) (p₀ p : Progress) (c' : Columns) (out' : List ℕ) (r : Fed) → n ≡ feeds chunk →
+    19 * n ≤ length out → p₀ ≡ begun s →
+    Goes (feed hears (sessionOf (place p₀ c out)) chunk) (lineAfter (p₀ .line) chunk) (place p₀ c out) (place p c' out') → r ≡ writtenBy p →
     left r c' out' ≡ fed s c chunk out
 unfolding fed
-chunk-fed s c chunk out n p c' out' r e h g w =
+chunk-fed s c chunk out n p₀ p c' out' r e h b to w =
+    let g : Goes (feed hears (sessionOf (begin s c out)) chunk) (lineAfter (s .line) chunk) (begin s c out) (place p c' out') = rw b at to in
     rw w
     (all-written (feed hears (session s c) chunk) (lineAfter (s .line) chunk) (begin s c out) p c' out' g
     ∙ sym (with-room (feeds chunk) s c out _ (omega arith)))
@@ -87,49 +88,12 @@ end-short s c out n r e h w =
     let m = length (unended (held (s .line))) in
     rw (w, e) (no-room m s c out _ (too-short (length out) m (rw e at h)))
 
-pub end-room : (s : State) (c : Columns) (out : List ℕ) (n : ℕ) → n ≡ length (unended (held (s .line))) → n ≤ length out / 19 →
-    Room (finish hears (sessionOf (begin s c out))) (begin s c out)
-end-room s c out n e h =
-    record { text = omega arith; whole = omega (arith, finished-size (ledger (s .book) c) (held (s .line)) []) }
-
-pub end-finished : (s : State) (c : Columns) (out : List ℕ) (n : ℕ) (p : Progress) (c' : Columns) (out' : List ℕ) (r : Fed) →
-    n ≡ length (unended (held (s .line))) → n ≤ length out / 19 →
-    Goes (finish hears (sessionOf (begin s c out))) noLine (begin s c out) (place p c' out') → r ≡ writtenBy p → left r c' out' ≡ finished s c out
+pub end-finished : (s : State) (c : Columns) (out : List ℕ) (n : ℕ) (p₀ p : Progress) (c' : Columns) (out' : List ℕ) (r : Fed) →
+    n ≡ length (unended (held (s .line))) → n ≤ length out / 19 → p₀ ≡ begun s →
+    Goes (finish hears (sessionOf (place p₀ c out))) noLine (place p₀ c out) (place p c' out') → r ≡ writtenBy p → left r c' out' ≡ finished s c out
 unfolding finished
-end-finished s c out n p c' out' r e h g w =
+end-finished s c out n p₀ p c' out' r e h b to w =
+    let g : Goes (finish hears (sessionOf (begin s c out))) noLine (begin s c out) (place p c' out') = rw b at to in
     rw w
     (all-written (finish hears (session s c)) noLine (begin s c out) p c' out' g
     ∙ sym (with-room (length (unended (held (s .line)))) s c out _ (omega arith)))
-
--- The program starts with no line.
-module _ (l : Ledger) (input out : List ℕ) (n : ℕ) (line : Line) where
-  abbrev at-first : Place Ledger
-  at-first = record { book = l; line = line; at = 0; out = out }
-
-  pub all-short : (r : Fed) → line ≡ noLine → n ≡ length (lines input) → length out / 19 < n → r ≡ record { state = state (l .book) line; text = Short n } →
-      left r (l .columns) out ≡ allAnswered l input out
-  unfolding allAnswered
-  all-short r z e h w =
-      rw (w, z, e) (no-room (length (lines input)) (state (l .book) noLine) (l .columns) out _ (too-short (length out) (length (lines input)) (rw e at h)))
-
-  pub all-chunk-room : line ≡ noLine → n ≡ length (lines input) → n ≤ length out / 19 → Room (feed hears (sessionOf at-first) input) at-first
-  all-chunk-room z e h =
-      record { text = omega arith; whole = omega (arith, fed-size (sessionOf at-first) input, few-feeds input) }
-
-  pub all-end-room : (t : Place Ledger) → line ≡ noLine → n ≡ length (lines input) → n ≤ length out / 19 →
-      Goes (feed hears (sessionOf at-first) input) (lineAfter line input) at-first t → Room (finish hears (sessionOf t)) t
-  all-end-room t z e h g =
-      let m : Moved (feed hears (sessionOf (first hears l out)) input) (first hears l out) t = rw z at (g .moved) in
-      record { text = g .moved .within; whole = room-whole hears l input out t m (omega arith) }
-
-  pub all-done : (t : Place Ledger) (p : Progress) (c : Columns) (out' : List ℕ) (r : Fed) → line ≡ noLine → n ≡ length (lines input) → n ≤ length out / 19 →
-      Goes (feed hears (sessionOf at-first) input) (lineAfter line input) at-first t → Goes (finish hears (sessionOf t)) noLine t (place p c out') → r ≡ writtenBy p →
-      left r c out' ≡ allAnswered l input out
-  unfolding allAnswered
-  all-done t p c out' r z e h f g w =
-      let m : Moved (feed hears (sessionOf (first hears l out)) input) (first hears l out) t = rw z at (f .moved) in
-      let a = answered hears l input out t (place p c out') m (g .moved) in
-      rw w
-      (same (ap (λ (y : Ledger). y .book) (a .book)) (g .held) (a .counted) (ap (λ (y : Ledger). y .columns) (a .book))
-      (a .written ∙ ap (λ (k : ℕ). output hears l input ++ drop k out) (a .counted))
-      ∙ sym (with-room (length (lines input)) (state (l .book) noLine) (l .columns) out _ (omega arith)))

@@ -1,5 +1,4 @@
 pub mod Hearing
-pub mod Counting
 pub mod Lengths
 pub mod Going
 pub mod Leaving

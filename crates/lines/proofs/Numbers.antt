@@ -8,25 +8,29 @@ use lib.Ieee.{Float}
 use Rattle.floats.specs.Operators.{decimal, if_then_else_}
 use Rattle.floats.proofs.Tests.{by, clash, and-left, and-right}
 use Rattle.limits.specs.Checks.{first, none}
-use Rattle.limits.specs.Outcome.{Outcome, done, refused}
-use Rattle.brent.specs.Outcome.{Values, ended, zeros}
+use Rattle.limits.specs.Outcome.{Outcome, done, refused, valuesOf, answered}
+use Rattle.brent.specs.declared.Solution.{Solution}
+use Rattle.brent.specs.Outcome.{ended}
 use Rattle.brent.specs.Feed.{over}
-use Rattle.brent.specs.Run.{Run, runWith}
+use Rattle.brent.specs.Run.{runWith}
 use Rattle.brent.specs.Claim.{Given, five, eleven, twelve, thirteen}
 use Rattle.brent.proofs.Theorem.{claim}
-use Rattle.greeks.specs.declared.OptionType.the-variants as OptionType
-use Rattle.grid.specs.Answers.{answered}
 use Rattle.grid.specs.Readings.{readRefusal, reading}
 use Rattle.chart.specs.Build.{Lengths, refusal}
-use Rattle.ledger.specs.Model.{Opening, Model, bsm, Offer, volatility, priced}
-use Rattle.ledger.specs.Book.{Columns, openRefusal, opened, ownRefusal, entryRefusal, offerRefusal, endOf, answer, offerOutcome}
+use Rattle.greeks.specs.declared.OptionType.{OptionType}
+use Rattle.ledger.specs.Model.{Opening, Model, bsm, pricesOf}
+use Rattle.ledger.specs.Book.{Columns, isShort, openRefusal, opened, ownRefusal, offerRefusal, endOf, answerTo, answer, offerOutcome}
+use Rattle.ledger.specs.declared.Offer.{Offer}
+use Rattle.ledger.specs.declared.Terms.{Terms}
+use Rattle.ledger.specs.declared.Terms.the-variants.{Volatility, Price}
 use Rattle.ledger.specs.Build.{Buffers, buildRefusal, buildOutcome, buffersAfter}
-use Rattle.ledger.specs.Claim.{Ledger, hear}
+use Rattle.ledger.specs.Claim.{Ledger, hear, reply}
 use Rattle.ledger.specs.declared.Book.{Book}
 use Rattle.frames.specs.declared.Frame.{Frame}
-use Rattle.frames.specs.declared.Frame.the-variants.{Open, Call, Put, Vol, Read, Bad}
+use Rattle.lines.specs.declared.Asked.{Asked}
+use Rattle.lines.specs.declared.Asked.the-variants as Asked
 use Rattle.lines.specs.Claims.{Tabled}
-use Rattle.lines.specs.Hear.{ledger, said, bookOf, opens, offers, blank, readOf, reads, hears}
+use Rattle.lines.specs.Hear.{ledger, said, opens, offers, blank, readOf, reads, askedBy, answers, hears}
 
 is-tabled : (n : ℕ) → (leb n 21 && not (eqb n 14)) ≡ true → Tabled n
 is-tabled n h =
@@ -51,7 +55,7 @@ chosen : {X : Type 0} (n : ℕ) (x : X) (o : Outcome X) → Tabled n → InTable
 chosen n x o h k = by InTable (λ (b : Bool). cond b o (refused n x)) (eqb n none) (λ _. k) (λ _. h)
 
 open-tabled : (o : Opening) → InTable (opened o)
-unfolding opened openRefusal
+unfolding opened openRefusal answered
 open-tabled o = chosen _ _ (done _) (next _ 6 _ refl (next _ 9 none refl no-number)) tt
 
 given-tabled : {n k : ℕ} → Given n k → Tabled n
@@ -64,29 +68,28 @@ run-tabled : (market : Float) (price : Float → Float) → InTable (endOf (runW
 unfolding endOf
 run-tabled market price = let m = claim .modelled market price in go (m .done-with .0) (m .done-with .1)
   where
-    go : (o : Outcome Values) → runWith market price .reply ≡ ended o over → InTable (endOf (runWith market price .reply))
+    go : (o : Outcome Solution) → runWith market price .reply ≡ ended o over → InTable (endOf (runWith market price .reply))
     go (done x) e = rw e tt
     go (refused n x) e = rw e (given-tabled (claim .modelled market price .ran .refusal e .0))
 
-answer-tabled : (model : Model) (opening : Opening) (o : Offer) → InTable (answer model opening o)
-unfolding answer
-answer-tabled model opening (volatility strike expiry v) = tt
-answer-tabled model opening (priced kind strike expiry market) = run-tabled market (model opening kind strike expiry)
+answer-tabled : (prices : OptionType → Float → Float) (terms : Terms) → InTable (answerTo prices terms)
+unfolding answerTo
+answer-tabled prices (Volatility v) = tt
+answer-tabled prices (Price kind market) = run-tabled market (prices kind)
 
 own-tabled : (o : Offer) → Tabled (ownRefusal o)
 unfolding ownRefusal
-own-tabled (volatility strike expiry v) = next _ 7 _ refl (next _ 8 _ refl (next _ 10 none refl no-number))
-own-tabled (priced kind strike expiry market) = next _ 5 _ refl (next _ 7 _ refl (next _ 8 none refl no-number))
+own-tabled o = next _ 5 _ refl (next _ 7 _ refl (next _ 8 _ refl (next _ 10 none refl no-number)))
 
-offer-tabled : (model : Model) (c : Columns) (b : Book) (o : Offer) → InTable (offerOutcome model c b o)
-unfolding offerOutcome offerRefusal entryRefusal
-offer-tabled model c b o =
+offer-tabled : (model : Model) (short : Bool) (b : Book) (o : Offer) → InTable (offerOutcome model short b o)
+unfolding offerOutcome offerRefusal
+offer-tabled model short b o =
     chosen _ _ (answer model _ o)
     (next _ 1 _ refl (next _ 2 _ refl (next _ 3 _ refl (next _ 4 _ refl (own-tabled o)))))
-    (answer-tabled model _ o)
+    (answer-tabled (pricesOf model _ o) (o .terms))
 
 build-tabled : (b : Book) (c : Columns) (s : Buffers) → InTable (buildOutcome b c s)
-unfolding buildOutcome buildRefusal refusal answered
+unfolding buildRefusal refusal answered
 build-tabled b c s =
     chosen _ _ (done _)
     (next _ 1 _ refl
@@ -113,12 +116,13 @@ said-tabled l value (refused number x) h = h
 
 opens-tabled : (l : Ledger) (o : Opening) → Tabled (opens l o .number)
 unfolding opens
-opens-tabled l o = said-tabled (ledger (bookOf (opened o)) (l .columns)) (λ (b : Book). decimal 0 1) (opened o) (open-tabled o)
+opens-tabled l o = said-tabled (ledger (valuesOf (opened o)) (l .columns)) (λ (b : Book). decimal 0 1) (opened o) (open-tabled o)
 
 offers-tabled : (l : Ledger) (o : Offer) → Tabled (offers l o .number)
 unfolding offers
 offers-tabled l o =
-    said-tabled (hear bsm l o) (λ (x : Values). x .volatility) (offerOutcome bsm (l .columns) (l .book) o) (offer-tabled bsm (l .columns) (l .book) o)
+    said-tabled (hear bsm l o) (λ (x : Solution). x .volatility) (reply bsm l o)
+    (offer-tabled bsm (isShort (l .columns)) (l .book) o)
 
 reads-tabled : (l : Ledger) (strike expiry : Float) → Tabled (reads l strike expiry .number)
 unfolding reads
@@ -127,11 +131,13 @@ reads-tabled l strike expiry =
     let o = buildOutcome (l .book) (l .columns) blank in
     said-tabled l (λ (x : Float). x) (readOf s strike expiry o) (read-of-tabled s strike expiry o (build-tabled (l .book) (l .columns) blank))
 
+asked-tabled : (l : Ledger) (a : Asked) → Tabled (answers l a .number)
+unfolding answers
+asked-tabled l (Asked.Open spot rate) = opens-tabled l (record { spot = spot; rate = rate })
+asked-tabled l (Asked.Quote offer) = offers-tabled l offer
+asked-tabled l (Asked.Read strike expiry) = reads-tabled l strike expiry
+asked-tabled l Asked.Nothing = is-tabled (answers l Asked.Nothing .number) refl
+
 pub tabled : (l : Ledger) (f : Frame) → Tabled (hears l f .number)
 unfolding hears
-tabled l (Open spot rate) = opens-tabled l (record { spot = spot; rate = rate })
-tabled l (Call strike expiry price) = offers-tabled l (priced OptionType.Call strike expiry price)
-tabled l (Put strike expiry price) = offers-tabled l (priced OptionType.Put strike expiry price)
-tabled l (Vol strike expiry v) = offers-tabled l (volatility strike expiry v)
-tabled l (Read strike expiry) = reads-tabled l strike expiry
-tabled l Bad = is-tabled (hears l Bad .number) refl
+tabled l f = asked-tabled l (askedBy f)

@@ -2,26 +2,25 @@
 use mathlib.Core.Path.{_≡_, refl, sym, ap, subst, _∙_}
 use mathlib.Core.Bool.{Bool, cond}
 use mathlib.Core.List.{List, [], _∷_, _++_}
-use Prim.Native.Nat.{ℕ, _+_, _*_, _≤_}
+use Prim.Native.Nat.{ℕ, _*_, _≤_}
 use native.Mathlib.Omega.{arith}
 use lib.Dec.{eqb, ltb}
-use lib.ListN.{length, take, drop, set, length-append, length-drop, length-set}
+use lib.ListN.{length, take, drop, length-append, length-drop}
 use lib.Seq.{take-at}
 use Rattle.floats.proofs.Tests.{by}
 use Rattle.ledger.specs.Book.{Columns, zeroBook}
 use Rattle.ledger.specs.Claim.{Ledger}
-use Rattle.frames.specs.Lines.{cap, unended, lines, held, noLine, pushed}
-use Rattle.frames.specs.Session.{Session, step, feed, finish, ended, run, output, bookLeft, joined}
+use Rattle.frames.specs.Lines.{cap, unended, held, noLine, pushed, feeds}
+use Rattle.frames.specs.Session.{Session, step, feed, finish, ended, run, output, joined}
 use Rattle.frames.specs.declared.Line.{Line}
 use Rattle.frames.proofs.Parts.{held-pushed}
+use Rattle.frames.proofs.Taking.{pushed-length, few-feeds}
 use Rattle.frames.proofs.Streams.{any-chunks}
-use Rattle.frames.proofs.Sizes.{lines-room}
 use Rattle.lines.specs.Hear.{ledger, hears}
-use Rattle.lines.specs.Calls.{fresh, session, lineStep, lineAfter, feeds, Left, left, wrote, ifRoom, fed, finished, allAnswered}
+use Rattle.lines.specs.Calls.{fresh, session, lineStep, lineAfter, Left, left, wrote, ifRoom, fed, finished}
 use Rattle.lines.specs.Claims.{countOf, textOf, called, Roomy}
 use Rattle.lines.specs.declared.State.{State}
 use Rattle.lines.specs.declared.Text.the-variants.{Short}
-use Rattle.lines.proofs.Counting.{few-feeds}
 use Rattle.lines.proofs.Lengths.{fed-size}
 use Rattle.lines.proofs.Leaving.{with-room}
 
@@ -38,7 +37,8 @@ counts-within : (n : ℕ) (s : State) (c : Columns) (out : List ℕ) (l : Ledger
     countOf (ifRoom n s c out (wrote l line text out) .fed .text) ≤ length (ifRoom n s c out (wrote l line text out) .out)
 unfolding ifRoom
 counts-within n s c out l line text =
-    by (λ (r : Left). countOf (r .fed .text) ≤ length (r .out)) (λ (b : Bool). cond b (left (record { state = s; text = Short n }) c out) (wrote l line text out)) (ltb (length out) (19 * n))
+    by (λ (r : Left). countOf (r .fed .text) ≤ length (r .out))
+    (λ (b : Bool). cond b (left (record { state = s; text = Short n }) c out) (wrote l line text out)) (ltb (length out) (19 * n))
     (λ _. omega arith) (λ _. simp length-append (omega arith))
 
 pub fed-within : (s : State) (c : Columns) (chunk out : List ℕ) → countOf (fed s c chunk out .fed .text) ≤ length (fed s c chunk out .out)
@@ -56,19 +56,15 @@ finished-within s c out =
 -- ---- the line that is held is the session's part
 
 step-length : (l : Line) (c : ℕ) → length (l .bytes) ≡ cap → length (lineStep l c .bytes) ≡ cap
-unfolding lineStep pushed
-step-length l c k =
-    by (λ (z : Line). length (z .bytes) ≡ cap) (λ (q : Bool). cond q noLine (pushed l c)) (eqb c 10) (λ _. refl)
-    (λ _.
-    by (λ (z : Line). length (z .bytes) ≡ cap) (λ (q : Bool). cond q (record { bytes = set (l .bytes) (l .seen) c; seen = l .seen + 1 }) l) (ltb (l .seen) cap)
-    (λ _. simp length-set k) (λ _. k))
+unfolding lineStep
+step-length l c k = by (λ (z : Line). length (z .bytes) ≡ cap) (λ (q : Bool). cond q noLine (pushed l c)) (eqb c 10) (λ _. refl) (λ _. pushed-length l c k)
 
 held-step : (s : Session Ledger) (l : Line) (c : ℕ) → length (l .bytes) ≡ cap → held l ≡ s .part → held (lineStep l c) ≡ step hears s c .part
 unfolding lineStep step ended
 held-step s l c k e =
     by (λ (z : Line × Session Ledger). held (z .0) ≡ z .1 .part)
-    (λ (q : Bool). (cond q noLine (pushed l c), cond q (ended hears s) (record { book = s .book; part = take cap (s .part ++ c ∷ []); text = s .text }))) (eqb c 10)
-    (λ _. refl) (λ _. held-pushed l c k ∙ ap (λ (p : List ℕ). take cap (p ++ c ∷ [])) e)
+    (λ (q : Bool). (cond q noLine (pushed l c), cond q (ended hears s) (record { book = s .book; part = take cap (s .part ++ c ∷ []); text = s .text })))
+    (eqb c 10) (λ _. refl) (λ _. held-pushed l c k ∙ ap (λ (p : List ℕ). take cap (p ++ c ∷ [])) e)
 
 after-length : (bs : List ℕ) (l : Line) → length (l .bytes) ≡ cap → length (lineAfter l bs .bytes) ≡ cap
 unfolding lineAfter
@@ -87,9 +83,6 @@ unfolding unended
 few [] = omega arith
 few (x ∷ p) = omega arith
 
-few-lines : (chunk : List ℕ) → feeds chunk ≤ length chunk
-few-lines chunk = omega (arith, few-feeds chunk, lines-room [] chunk)
-
 run-called : (chunks : List (List ℕ)) (s : State) (c : Columns) (out : List ℕ) → length (s .line .bytes) ≡ cap → Roomy (length out) chunks →
     called s c out chunks ≡ run hears (ledger (s .book) c) (held (s .line)) chunks .text
 unfolding called run finished fed
@@ -101,7 +94,7 @@ run-called (chunk ∷ chunks) s c out k h =
     let t = feed hears (session s c) chunk in
     let line = lineAfter (s .line) chunk in
     let w = wrote (t .book) line (t .text) out in
-    let room : 19 * feeds chunk ≤ length out = omega (arith, h .0, few-lines chunk) in
+    let room : 19 * feeds chunk ≤ length out = omega (arith, h .0, few-feeds chunk) in
     let size : length (w .out) ≡ length out = wrote-size (t .book) line (t .text) out (omega (arith, fed-size (session s c) chunk)) in
     ap (λ (r : Left). textOf r ++ called (r .fed .state) (r .columns) (r .out) chunks) (with-room (feeds chunk) s c out w room)
     ∙ ap (λ (x : List ℕ). x ++ called (w .fed .state) (w .columns) (w .out) chunks) (wrote-text (t .book) line (t .text) out)
@@ -112,9 +105,3 @@ run-called (chunk ∷ chunks) s c out k h =
 pub any-calls : (c : Columns) (out : List ℕ) (chunks : List (List ℕ)) → Roomy (length out) chunks →
     called fresh c out chunks ≡ output hears (ledger zeroBook c) (joined chunks)
 any-calls c out chunks h = run-called chunks fresh c out refl h ∙ ap (λ (z : Session Ledger). z .text) (any-chunks hears (ledger zeroBook c) chunks)
-
-pub one-call : (l : Ledger) (input out : List ℕ) → 19 * length (lines input) ≤ length out → textOf (allAnswered l input out) ≡ output hears l input
-unfolding allAnswered
-one-call l input out h =
-    let b = bookLeft hears l input in
-    ap textOf (with-room (length (lines input)) _ (l .columns) out _ h) ∙ wrote-text b noLine (output hears l input) out

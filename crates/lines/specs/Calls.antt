@@ -1,7 +1,6 @@
 -- What the calls of this crate promise: the answer, the record, and every lent entry.
-use Prim.Native.Nat.{ℕ, suc, _*_}
+use Prim.Native.Nat.{ℕ, _*_}
 use Prim.Native.Char.{code}
-use mathlib.Core.Path.{_≡_}
 use mathlib.Core.List.{List, [], _∷_, _++_}
 use lib.Dec.{eqb, ltb}
 use lib.ListN.{length, drop}
@@ -9,23 +8,13 @@ use Rattle.floats.specs.Operators.{if_then_else_}
 use Rattle.ledger.specs.Book.{Columns, zeroBook}
 use Rattle.ledger.specs.Claim.{Ledger}
 use Rattle.ledger.specs.declared.Book.{Book}
-use Rattle.frames.specs.Hex.{answerLine}
-use Rattle.frames.specs.Frames.{frameOf}
-use Rattle.frames.specs.Lines.{unended, lines, held, noLine, pushed}
-use Rattle.frames.specs.Session.{Session, output, bookLeft, feed, finish}
+use Rattle.frames.specs.Lines.{unended, held, noLine, pushed, feeds}
+use Rattle.frames.specs.Session.{Session, feed, finish}
 use Rattle.frames.specs.declared.Line.{Line}
 use Rattle.lines.specs.Hear.{ledger, hears}
-use Rattle.lines.specs.declared.Reply.{Reply}
 use Rattle.lines.specs.declared.State.{State}
 use Rattle.lines.specs.declared.Fed.{Fed}
 use Rattle.lines.specs.declared.Text.the-variants.{Written, Short}
-
--- ---- one line
-
--- The answer to a line's bytes, its line feed not among them.
-pub record AnswersLine (l : Ledger) (line : List ℕ) (r : Reply) (c' : Columns) : Type 0 where
-  pub text : r .text ≡ answerLine (hears l (frameOf line) .number) (hears l (frameOf line) .value)
-  pub ledger : ledger (r .book) c' ≡ hears l (frameOf line) .book
 
 -- ---- a stream of lines, a chunk at a time
 
@@ -45,11 +34,6 @@ unfoldable pub lineAfter : Line → List ℕ → Line
 unfolding lineStep
 lineAfter line [] = line
 lineAfter line (c ∷ cs) = lineAfter (lineStep line c) cs
-
--- How many lines a chunk ends.
-unfoldable pub feeds : List ℕ → ℕ
-feeds [] = 0
-feeds (c ∷ cs) = if eqb c (code "\n") then suc (feeds cs) else feeds cs
 
 -- What a call leaves: its answer, the columns and the lent buffer.
 pub record Left : Type 0 where
@@ -85,9 +69,3 @@ unfolding ifRoom
 finished s c out =
     let t = finish hears (session s c) in
     ifRoom (length (unended (held (s .line)))) s c out (wrote (t .book) noLine (t .text) out)
-
--- The whole program on an input: the answers to the frames of its lines.
-unfoldable pub allAnswered : Ledger → List ℕ → List ℕ → Left
-unfolding ifRoom
-allAnswered l input out =
-    ifRoom (length (lines input)) (state (l .book) noLine) (l .columns) out (wrote (bookLeft hears l input) noLine (output hears l input) out)

@@ -5,17 +5,20 @@ use mathlib.Core.List.{List, [], _∷_, _++_, map}
 use lib.Ieee.{Float}
 use lib.ListN.{length, take}
 use Rattle.greeks.specs.declared.OptionType.the-variants as OptionType
-use Rattle.ledger.specs.Model.{Opening, bsm, Offer, volatility, priced}
+use Rattle.ledger.specs.Model.{Opening, bsm}
+use Rattle.ledger.specs.declared.Offer.{Offer}
+use Rattle.ledger.specs.declared.Terms.{Terms}
+use Rattle.ledger.specs.declared.Terms.the-variants.{Volatility, Price}
 use Rattle.ledger.specs.Book.{Columns, zeroBook, fresh, openRefusal}
-use Rattle.ledger.specs.Claim.{Ledger, hearAll}
+use Rattle.ledger.specs.Fold.{after}
+use Rattle.ledger.specs.Claim.{Ledger, hear}
 use Rattle.limits.specs.Checks.{none}
-use Rattle.frames.specs.Lines.{lines}
 use Rattle.frames.specs.Session.{bookAfter, output, joined}
 use Rattle.frames.specs.Claims.{Streamed}
 use Rattle.frames.specs.declared.Frame.{Frame}
 use Rattle.frames.specs.declared.Frame.the-variants.{Open, Call, Put, Vol, Read, Bad}
 use Rattle.lines.specs.Hear.{ledger, hears}
-use Rattle.lines.specs.Calls.{fresh as noState, Left, fed, finished, allAnswered}
+use Rattle.lines.specs.Calls.{fresh as noState, Left, fed, finished}
 use Rattle.lines.specs.declared.State.{State}
 use Rattle.lines.specs.declared.Text.{Text}
 use Rattle.lines.specs.declared.Text.the-variants.{Written, Short}
@@ -46,10 +49,13 @@ Parts most [] = Unit {0}
 Parts most (chunk ∷ chunks) = (length chunk ≤ most) × Parts most chunks
 
 -- The line that says an offer.
-unfoldable pub lineOfOffer : Offer → Frame
-lineOfOffer (volatility strike expiry v) = Vol strike expiry v
-lineOfOffer (priced OptionType.Call strike expiry price) = Call strike expiry price
-lineOfOffer (priced OptionType.Put strike expiry price) = Put strike expiry price
+abbrev pub lineOfTerms : Float → Float → Terms → Frame
+lineOfTerms strike expiry (Volatility v) = Vol strike expiry v
+lineOfTerms strike expiry (Price OptionType.Call price) = Call strike expiry price
+lineOfTerms strike expiry (Price OptionType.Put price) = Put strike expiry price
+
+abbrev pub lineOfOffer : Offer → Frame
+lineOfOffer o = lineOfTerms (o .strike) (o .expiry) (o .terms)
 
 -- A number of document 01's table, from which 14 left with S-10, or none.
 abbrev pub Tabled : ℕ → Type 0
@@ -63,8 +69,6 @@ pub record Program : Type 0 where
       called noState c out chunks ≡ output hears (ledger zeroBook c) (joined chunks)
   -- The program reads 4,096 bytes at a time and lends 77,824: never too few.
   pub roomy : (chunks : List (List ℕ)) → Parts 4096 chunks → Roomy 77824 chunks
-  -- One call on the whole input writes the same.
-  pub at-once : (l : Ledger) (input out : List ℕ) → 19 * length (lines input) ≤ length out → textOf (allAnswered l input out) ≡ output hears l input
   -- No call writes past the buffer.
   pub within : (s : State) (c : Columns) (chunk out : List ℕ) →
       (countOf (fed s c chunk out .fed .text) ≤ length (fed s c chunk out .out)) × (countOf (finished s c out .fed .text) ≤ length (finished s c out .out))
@@ -78,4 +82,4 @@ pub record Program : Type 0 where
   pub shut : (l : Ledger) (o : Opening) → (openRefusal o ≡ none → ⊥) → hears l (Open (o .spot) (o .rate)) .book ≡ ledger zeroBook (l .columns)
   pub opened : (l : Ledger) (o : Opening) → openRefusal o ≡ none → hears l (Open (o .spot) (o .rate)) .book ≡ ledger (fresh o) (l .columns)
   -- Lines of offers are heard as demand 3's list is: its claim holds of the record and the columns that the program holds after them.
-  pub tray : (l : Ledger) (os : List Offer) → bookAfter hears l (map lineOfOffer os) ≡ hearAll bsm l os
+  pub tray : (l : Ledger) (os : List Offer) → bookAfter hears l (map lineOfOffer os) ≡ after (hear bsm) l os

@@ -1,28 +1,29 @@
 // The hexadecimal program: lines of frames are answered from the quote book, a line for each.
 ghost use mathlib.Core.Path.{_≡_};
-ghost use mathlib.Core.List.{[]};
-ghost use Prim.Native.Nat.{_+_, _≤_, _<_};
+ghost use Prim.Native.Nat.{_+_, _≤_};
 ghost use lib.ListN.{length};
 ghost use lib.Seq.{paste};
+ghost use Rattle.brent.specs.declared.Solution.{Solution};
 ghost use Rattle.greeks.specs.Implied.{outcomeOfImplied};
-ghost use Rattle.brent.specs.Outcome.{Values};
 ghost use Rattle.grid.specs.Readings.{readOutcome};
-ghost use Rattle.ledger.specs.Book.{Columns, columns};
+ghost use Rattle.ledger.specs.Book.{Columns, columnsOf};
 ghost use Rattle.ledger.specs.Claim.{Ledger};
-ghost use Rattle.frames.specs.Lines.{unended, held, noLine};
-ghost use Rattle.frames.specs.Session.{ended, step, feed, finish};
-ghost use Rattle.frames.specs.Moves.{sessionOf};
-ghost use Rattle.lines.specs.Hear.{ledger, said, opens, reads, hears};
-ghost use Rattle.lines.specs.Calls.{AnswersLine, fresh, lineStep, lineAfter, state, left, fed, finished, allAnswered};
-ghost use Rattle.lines.specs.Moves.{heardOf, place, Room, Goes, counted, Counts};
+ghost use Rattle.ledger.specs.Model.{priced};
+ghost use Rattle.frames.specs.Lines.{unended, held, feedIn, feeds};
+ghost use Rattle.lines.specs.Hear.{ledger, said, opens, reads, askedBy, answers};
+ghost use Rattle.lines.specs.Calls.{fresh, state, left, fed, finished};
+ghost use Rattle.lines.specs.Moves.{heardOf, place, LineEnded};
 use chart::Built;
 use frames::Frame;
 use frames::Line;
 use greeks::Implied;
+use greeks::OptionType;
 use grid::Reading;
 use ledger::Book;
 use ledger::Heard;
+use ledger::Offer;
 use ledger::Opened;
+use ledger::Terms;
 
 // What a frame leads to: the record, the number of its answer (0 for done) and its value.
 struct Said {
@@ -31,10 +32,12 @@ struct Said {
     value: f64,
 }
 
-// The record after a line, and the line of its answer.
-pub struct Reply {
-    pub book: Book,
-    pub text: [u8; 19],
+// What a frame asks of the book.
+enum Asked {
+    Open { spot: f64, rate: f64 },
+    Quote { offer: Offer },
+    Read { strike: f64, expiry: f64 },
+    Nothing,
 }
 
 // What the program holds between two chunks of its input: the record, and the part of a line that came so far.
@@ -48,12 +51,6 @@ struct Progress {
     book: Book,
     line: Line,
     at: usize,
-}
-
-// How many lines have ended, and one that has begun.
-struct LineCount {
-    ended: usize,
-    begun: usize,
 }
 
 // What was written to a lent buffer.
@@ -92,21 +89,15 @@ fn open_book(spot: f64, rate: f64) -> Said
 
 // What the book made of an offer.
 fn offered(heard: Heard) -> Said
-    ensures { λ r. ⌜ ((c : Columns) → heardOf r c ≡ said (ledger (heard .book) c) (λ (x : Values). x .volatility) (outcomeOfImplied (heard .answer))) ⌝ }
+    ensures { λ r. ⌜ ((c : Columns) → heardOf r c ≡ said (ledger (heard .book) c) (λ (x : Solution). x .volatility) (outcomeOfImplied (heard .answer))) ⌝ }
 {
     let book = heard.book;
     let answer = heard.answer;
     match answer {
-        Implied::Found {
-            volatility,
-            error: _,
-            c: _,
-            c_error: _,
-            evaluations: _,
-        } => Said {
+        Implied::Found { solution } => Said {
             book,
             number: 0,
-            value: volatility,
+            value: solution.volatility,
         },
         Implied::Refused {
             number,
@@ -145,7 +136,8 @@ fn read_surface(
     expiries: &[f64],
     volatilities: &[f64],
 ) -> Said
-    ensures { λ r. ⌜ heardOf r (columns (now (strikes .entry)) (now (expiries .entry)) (now (volatilities .entry))) ≡ reads (ledger book (columns (now (strikes .entry)) (now (expiries .entry)) (now (volatilities .entry)))) strike expiry ⌝ }
+    ensures { λ r. ⌜ heardOf r (columnsOf (now (strikes .entry)) (now (expiries .entry)) (now (volatilities .entry)))
+        ≡ reads (ledger book (columnsOf (now (strikes .entry)) (now (expiries .entry)) (now (volatilities .entry)))) strike expiry ⌝ }
 {
     let mut strike_axis = [0.0f64; 64];
     let mut expiry_axis = [0.0f64; 32];
@@ -177,49 +169,69 @@ fn read_surface(
     }
 }
 
-fn hear(
-    book: Book,
-    frame: Frame,
-    strikes: &mut [f64],
-    expiries: &mut [f64],
-    volatilities: &mut [f64],
-) -> Said
-    ensures { λ r. ⌜ heardOf r (columns (now (strikes .exit)) (now (expiries .exit)) (now (volatilities .exit))) ≡ hears (ledger book (columns (now (strikes .entry)) (now (expiries .entry)) (now (volatilities .entry)))) frame ⌝ }
+// What a frame asks for: an offer of any kind is one.
+fn priced(kind: OptionType, strike: f64, expiry: f64, price: f64) -> Asked
+    ensures { λ r. ⌜ r ≡ Asked.Quote (priced kind strike expiry price) ⌝ }
+{
+    Asked::Quote {
+        offer: Offer {
+            strike,
+            expiry,
+            terms: Terms::Price {
+                kind,
+                market: price,
+            },
+        },
+    }
+}
+
+fn asked_by(frame: Frame) -> Asked
+    ensures { λ r. ⌜ r ≡ askedBy frame ⌝ }
 {
     match frame {
-        Frame::Open { spot, rate } => open_book(spot, rate),
+        Frame::Open { spot, rate } => Asked::Open { spot, rate },
         Frame::Call {
             strike,
             expiry,
             price,
-        } => offered(book::offer_call(
-            book,
-            strike,
-            expiry,
-            price,
-            strikes,
-            expiries,
-            volatilities,
-        )),
+        } => priced(OptionType::Call, strike, expiry, price),
         Frame::Put {
             strike,
             expiry,
             price,
-        } => offered(book::offer_put(book, strike, expiry, price, strikes, expiries, volatilities)),
+        } => priced(OptionType::Put, strike, expiry, price),
         Frame::Vol {
             strike,
             expiry,
             volatility,
-        } => offered(book::offer_volatility(
-            book,
-            strike,
-            expiry,
-            volatility,
-            strikes,
-            expiries,
-            volatilities,
-        )),
-        Frame::Read { strike, expiry } => read_surface(
+        } => Asked::Quote {
+            offer: Offer {
+                strike,
+                expiry,
+                terms: Terms::Volatility { v: volatility },
+            },
+        },
+        Frame::Read { strike, expiry } => Asked::Read { strike, expiry },
+        Frame::Bad => Asked::Nothing,
+    }
+}
+
+fn hear(
+    book: Book,
+    asked: Asked,
+    strikes: &mut [f64],
+    expiries: &mut [f64],
+    volatilities: &mut [f64],
+) -> Said
+    ensures { λ r. ⌜ heardOf r (columnsOf (now (strikes .exit)) (now (expiries .exit)) (now (volatilities .exit)))
+        ≡ answers (ledger book (columnsOf (now (strikes .entry)) (now (expiries .entry)) (now (volatilities .entry)))) asked ⌝ }
+{
+    match asked {
+        Asked::Open { spot, rate } => open_book(spot, rate),
+        Asked::Quote { offer } => {
+            offered(book::offer(book, offer, strikes, expiries, volatilities))
+        }
+        Asked::Read { strike, expiry } => read_surface(
             book,
             strike,
             expiry,
@@ -227,36 +239,12 @@ fn hear(
             &expiries[..],
             &volatilities[..],
         ),
-        Frame::Bad => Said {
+        Asked::Nothing => Said {
             book,
             number: 21,
             value: 0.0,
         },
     }
-}
-
-// ---- one line
-
-// The answer to a line's bytes, its line feed not among them.
-pub fn answer(
-    book: Book,
-    line: &[u8],
-    strikes: &mut [f64],
-    expiries: &mut [f64],
-    volatilities: &mut [f64],
-) -> Reply
-    ensures { λ r. ⌜ AnswersLine (ledger book (columns (now (strikes .entry)) (now (expiries .entry)) (now (volatilities .entry)))) (now (line .entry)) r (columns (now (strikes .exit)) (now (expiries .exit)) (now (volatilities .exit))) ⌝ }
-{
-    let said = hear(
-        book,
-        frames::frame_of(line),
-        strikes,
-        expiries,
-        volatilities,
-    );
-    let text = frames::answer_line(said.number, said.value);
-    let after = said.book;
-    Reply { book: after, text }
 }
 
 // ---- a stream of lines
@@ -282,17 +270,14 @@ fn line_ended(
     out: &mut [u8],
 ) -> Progress
     requires { ⌜ p .at + 19 ≤ length (now out) ⌝ }
-    ensures { λ r. ⌜ Goes (ended hears (sessionOf (place p (columns (now (strikes .entry)) (now (expiries .entry)) (now (volatilities .entry))) (now (out .entry))))) noLine (place p (columns (now (strikes .entry)) (now (expiries .entry)) (now (volatilities .entry))) (now (out .entry))) (place r (columns (now (strikes .exit)) (now (expiries .exit)) (now (volatilities .exit))) (now (out .exit))) ⌝ }
+    ensures { λ r. ⌜ LineEnded
+        (place p (columnsOf (now (strikes .entry)) (now (expiries .entry)) (now (volatilities .entry))) (now (out .entry)))
+        (place r (columnsOf (now (strikes .exit)) (now (expiries .exit)) (now (volatilities .exit))) (now (out .exit))) ⌝ }
 {
     let at = p.at;
     let to = at + 19;
-    let said = hear(
-        p.book,
-        frames::line_frame(p.line),
-        strikes,
-        expiries,
-        volatilities,
-    );
+    let frame = frames::line_frame(p.line);
+    let said = hear(p.book, asked_by(frame), strikes, expiries, volatilities);
     let text = frames::answer_line(said.number, said.value);
     put(&text, out, at);
     let book = said.book;
@@ -303,98 +288,22 @@ fn line_ended(
     }
 }
 
-fn take_byte(
-    p: Progress,
-    b: u8,
-    strikes: &mut [f64],
-    expiries: &mut [f64],
-    volatilities: &mut [f64],
-    out: &mut [u8],
-) -> Progress
-    requires { ⌜ Room (step hears (sessionOf (place p (columns (now strikes) (now expiries) (now volatilities)) (now out))) b) (place p (columns (now strikes) (now expiries) (now volatilities)) (now out)) ⌝ }
-    ensures { λ r. ⌜ Goes (step hears (sessionOf (place p (columns (now (strikes .entry)) (now (expiries .entry)) (now (volatilities .entry))) (now (out .entry)))) b) (lineStep (p .line) b) (place p (columns (now (strikes .entry)) (now (expiries .entry)) (now (volatilities .entry))) (now (out .entry))) (place r (columns (now (strikes .exit)) (now (expiries .exit)) (now (volatilities .exit))) (now (out .exit))) ⌝ }
-{
-    if b == b'\n' {
-        return line_ended(p, strikes, expiries, volatilities, out);
-    }
-    let book = p.book;
-    let at = p.at;
-    Progress {
-        book,
-        line: frames::push(p.line, b),
-        at,
-    }
-}
-
-fn take_chunk(
-    p: Progress,
-    chunk: &[u8],
-    strikes: &mut [f64],
-    expiries: &mut [f64],
-    volatilities: &mut [f64],
-    out: &mut [u8],
-) -> Progress
-    requires { ⌜ Room (feed hears (sessionOf (place p (columns (now strikes) (now expiries) (now volatilities)) (now out))) (now chunk)) (place p (columns (now strikes) (now expiries) (now volatilities)) (now out)) ⌝ }
-    ensures { λ r. ⌜ Goes (feed hears (sessionOf (place p (columns (now (strikes .entry)) (now (expiries .entry)) (now (volatilities .entry))) (now (out .entry)))) (now (chunk .entry))) (lineAfter (p .line) (now (chunk .entry))) (place p (columns (now (strikes .entry)) (now (expiries .entry)) (now (volatilities .entry))) (now (out .entry))) (place r (columns (now (strikes .exit)) (now (expiries .exit)) (now (volatilities .exit))) (now (out .exit))) ⌝ }
-{
-    let mut t = p;
-    let mut i = 0;
-    while i < chunk.len() {
-        t = take_byte(t, chunk[i], strikes, expiries, volatilities, out);
-        i += 1;
-    }
-    t
-}
-
-// The input ends: a part of a line is the last line.
-fn input_ended(
-    p: Progress,
-    strikes: &mut [f64],
-    expiries: &mut [f64],
-    volatilities: &mut [f64],
-    out: &mut [u8],
-) -> Progress
-    requires { ⌜ Room (finish hears (sessionOf (place p (columns (now strikes) (now expiries) (now volatilities)) (now out)))) (place p (columns (now strikes) (now expiries) (now volatilities)) (now out)) ⌝ }
-    ensures { λ r. ⌜ Goes (finish hears (sessionOf (place p (columns (now (strikes .entry)) (now (expiries .entry)) (now (volatilities .entry))) (now (out .entry))))) noLine (place p (columns (now (strikes .entry)) (now (expiries .entry)) (now (volatilities .entry))) (now (out .entry))) (place r (columns (now (strikes .exit)) (now (expiries .exit)) (now (volatilities .exit))) (now (out .exit))) ⌝ }
-{
-    let n = p.line.seen;
-    if n != 0 {
-        return line_ended(p, strikes, expiries, volatilities, out);
-    }
-    let book = p.book;
-    let at = p.at;
-    Progress {
-        book,
-        line: frames::no_line(),
-        at,
-    }
-}
-
 // ---- how many answers there will be
 
-fn counted(n: LineCount, b: u8) -> LineCount
-    requires { ⌜ n .ended < 18446744073709551615 ⌝ }
-    ensures { λ r. ⌜ r ≡ counted n b ⌝ }
+// 1 for a line feed, 0 for another byte.
+fn feed_in(b: u8) -> usize
+    ensures { λ r. ⌜ (r ≡ feedIn b) × (r ≤ 1) ⌝ }
 {
-    if b == b'\n' {
-        return LineCount {
-            ended: n.ended + 1,
-            begun: 0,
-        };
-    }
-    LineCount {
-        ended: n.ended,
-        begun: 1,
-    }
+    if b == b'\n' { 1 } else { 0 }
 }
 
-fn count_lines(bytes: &[u8]) -> LineCount
-    ensures { λ r. ⌜ Counts (now (bytes .entry)) r ⌝ }
+fn count_lines(bytes: &[u8]) -> usize
+    ensures { λ r. ⌜ r ≡ feeds (now (bytes .entry)) ⌝ }
 {
-    let mut n = LineCount { ended: 0, begun: 0 };
+    let mut n = 0;
     let mut i = 0;
     while i < bytes.len() {
-        n = counted(n, bytes[i]);
+        n += feed_in(bytes[i]);
         i += 1;
     }
     n
@@ -426,6 +335,27 @@ pub fn start() -> State
     }
 }
 
+// Nothing of a lent buffer is written yet.
+fn begin(state: State) -> Progress
+    ensures { λ r. ⌜ r ≡ record { book = state .book; line = state .line; at = 0 } ⌝ }
+{
+    let book = state.book;
+    let line = state.line;
+    Progress { book, line, at: 0 }
+}
+
+// The line that is held is another.
+fn holding(p: Progress, line: Line) -> Progress
+    ensures { λ r. ⌜ r ≡ record { book = p .book; line = line; at = p .at } ⌝ }
+{
+    let book = p.book;
+    Progress {
+        book,
+        line,
+        at: p.at,
+    }
+}
+
 fn written(p: Progress) -> Fed
     ensures { λ r. ⌜ r ≡ record { state = state (p .book) (p .line); text = Text.Written (p .at) } ⌝ }
 {
@@ -446,7 +376,7 @@ fn short(state: State, lines: usize) -> Fed
     }
 }
 
-// Hears a chunk of the input. The answers to the lines that it ends go to the front of `out`.
+// Hears a chunk of the input. The answers to the lines that it ends go to the front of `out`; what is left of it is held.
 pub fn feed(
     state: State,
     chunk: &[u8],
@@ -455,16 +385,24 @@ pub fn feed(
     volatilities: &mut [f64],
     out: &mut [u8],
 ) -> Fed
-    ensures { λ r. ⌜ left r (columns (now (strikes .exit)) (now (expiries .exit)) (now (volatilities .exit))) (now (out .exit)) ≡ fed state (columns (now (strikes .entry)) (now (expiries .entry)) (now (volatilities .entry))) (now (chunk .entry)) (now (out .entry)) ⌝ }
+    ensures { λ r. ⌜ left r (columnsOf (now (strikes .exit)) (now (expiries .exit)) (now (volatilities .exit))) (now (out .exit))
+        ≡ fed state (columnsOf (now (strikes .entry)) (now (expiries .entry)) (now (volatilities .entry))) (now (chunk .entry)) (now (out .entry)) ⌝ }
 {
-    let lines = count_lines(chunk).ended;
+    let lines = count_lines(chunk);
     if out.len() / 19 < lines {
         return short(state, lines);
     }
-    let book = state.book;
-    let line = state.line;
-    let p = Progress { book, line, at: 0 };
-    written(take_chunk(p, chunk, strikes, expiries, volatilities, out))
+    let mut p = begin(state);
+    let mut from = 0;
+    let mut heard = 0;
+    while heard < lines {
+        let t = frames::take_line(p.line, chunk, from);
+        p = line_ended(holding(p, t.line), strikes, expiries, volatilities, out);
+        from = t.next;
+        heard += 1;
+    }
+    let rest = frames::take_line(p.line, chunk, from);
+    written(holding(p, rest.line))
 }
 
 // The input has ended: a last line that lacks its line feed is answered.
@@ -475,36 +413,16 @@ pub fn finish(
     volatilities: &mut [f64],
     out: &mut [u8],
 ) -> Fed
-    ensures { λ r. ⌜ left r (columns (now (strikes .exit)) (now (expiries .exit)) (now (volatilities .exit))) (now (out .exit)) ≡ finished state (columns (now (strikes .entry)) (now (expiries .entry)) (now (volatilities .entry))) (now (out .entry)) ⌝ }
+    ensures { λ r. ⌜ left r (columnsOf (now (strikes .exit)) (now (expiries .exit)) (now (volatilities .exit))) (now (out .exit))
+        ≡ finished state (columnsOf (now (strikes .entry)) (now (expiries .entry)) (now (volatilities .entry))) (now (out .entry)) ⌝ }
 {
-    let book = state.book;
-    let line = state.line;
-    let lines = begun(line);
+    let lines = begun(state.line);
     if out.len() / 19 < lines {
         return short(state, lines);
     }
-    let p = Progress { book, line, at: 0 };
-    written(input_ended(p, strikes, expiries, volatilities, out))
-}
-
-// The whole program on a lent input and output.
-pub fn answer_all(
-    book: Book,
-    input: &[u8],
-    strikes: &mut [f64],
-    expiries: &mut [f64],
-    volatilities: &mut [f64],
-    out: &mut [u8],
-) -> Fed
-    ensures { λ r. ⌜ left r (columns (now (strikes .exit)) (now (expiries .exit)) (now (volatilities .exit))) (now (out .exit)) ≡ allAnswered (ledger book (columns (now (strikes .entry)) (now (expiries .entry)) (now (volatilities .entry)))) (now (input .entry)) (now (out .entry)) ⌝ }
-{
-    let n = count_lines(input);
-    let lines = n.ended + n.begun;
-    let line = frames::no_line();
-    if out.len() / 19 < lines {
-        return short(State { book, line }, lines);
+    let p = begin(state);
+    if lines == 0 {
+        return written(holding(p, frames::no_line()));
     }
-    let p = Progress { book, line, at: 0 };
-    let q = take_chunk(p, input, strikes, expiries, volatilities, out);
-    written(input_ended(q, strikes, expiries, volatilities, out))
+    written(line_ended(p, strikes, expiries, volatilities, out))
 }

@@ -3,7 +3,8 @@ use mathlib.Core.Path.{_≡_, sym, ap, _∙_, subst}
 use mathlib.Core.Bool.{true, false}
 use Prim.Native.Nat.{ℕ, zero, suc, _+_, _-_, _*_, _/_, _%_, _^_, _≤_, _<_}
 use native.Mathlib.Omega.{arith}
-use native.Mathlib.Nat.{mul-assoc, zero-add, div-one, le-trans, le-of-eq, lt-of-lt-of-le, lt-irrefl, lt-of-not-le, le-of-mul-le-mul-right, mul-le-mul-right, mul-pos}
+use native.Mathlib.Nat.{mul-assoc, zero-add, div-one, le-trans, le-of-eq, lt-of-lt-of-le, lt-irrefl, lt-of-not-le, le-of-mul-le-mul-right, mul-le-mul-right}
+use native.Mathlib.Nat.{mul-pos}
 use native.Mathlib.Decide.{decLe}
 use lib.Dec.{T, ltb→lt}
 use lib.Pow.{pow-add, pow-pos, pow-mono, shl-lt, shl-shr, shl-exact}
@@ -12,7 +13,7 @@ use lib.Ieee.{Float, nan, inf, fin, binary64, size, toBits, fits}
 use lib.Ieee.Digits.{size-lt, size-le, size-reaches}
 use lib.Ieee.Fits.{kept-lt}
 use lib.Ieee.Positive.{positive}
-use Rattle.floats.specs.Wholes.{units}
+use Rattle.floats.specs.Wholes.{unitsOf}
 use Rattle.floats.proofs.Whole.{significand-lt, exponent-fine, value-small, places, units-are, units-lt}
 use Rattle.normal.specs.Steps.{Digits}
 
@@ -139,12 +140,14 @@ module _ (n : ℕ) (P : 0 < n) (B : n < 4503599627370496) where
 
 -- ---- a positive float's pattern
 module _ (v : Float) (F : T (fits binary64 v)) (P : T (positive v)) where
-  pub shape : (m : ℕ) × (j : ℕ) × (0 < m) × (m < 9007199254740992) × (units v ≡ m * 2 ^ j) × (toBits binary64 v ≡ (size (m * 2 ^ j) - 53) * 4503599627370496 + m * 2 ^ j / 2 ^ (size (m * 2 ^ j) - 53))
+  pub shape : (m : ℕ) × (j : ℕ) × (0 < m) × (m < 9007199254740992) × (unitsOf v ≡ m * 2 ^ j)
+      × (toBits binary64 v ≡ (size (m * 2 ^ j) - 53) * 4503599627370496 + m * 2 ^ j / 2 ^ (size (m * 2 ^ j) - 53))
   unfolding toBits
   shape = go v F P
     where
       go : (v : Float) → T (fits binary64 v) → T (positive v)
-          → (m : ℕ) × (j : ℕ) × (0 < m) × (m < 9007199254740992) × (units v ≡ m * 2 ^ j) × (toBits binary64 v ≡ (size (m * 2 ^ j) - 53) * 4503599627370496 + m * 2 ^ j / 2 ^ (size (m * 2 ^ j) - 53))
+          → (m : ℕ) × (j : ℕ) × (0 < m) × (m < 9007199254740992) × (unitsOf v ≡ m * 2 ^ j) ×
+          (toBits binary64 v ≡ (size (m * 2 ^ j) - 53) * 4503599627370496 + m * 2 ^ j / 2 ^ (size (m * 2 ^ j) - 53))
       go nan f p = absurd p
       go (inf s) f p = absurd p
       go (fin true m e) f p = absurd p
@@ -157,26 +160,27 @@ module _ (v : Float) (F : T (fits binary64 v)) (P : T (positive v)) where
             significand-lt false m e f,
             u,
             ap (λ (n : ℕ). 0 + (size n - 53) * 4503599627370496 + n / 2 ^ (size n - 53)) u
-                ∙ ap (λ (x : ℕ). x + suc m * 2 ^ places e / 2 ^ (size (suc m * 2 ^ places e) - 53)) (zero-add ((size (suc m * 2 ^ places e) - 53) * 4503599627370496)),
+                ∙ ap (λ (x : ℕ). x + suc m * 2 ^ places e / 2 ^ (size (suc m * 2 ^ places e) - 53))
+                (zero-add ((size (suc m * 2 ^ places e) - 53) * 4503599627370496)),
           )
 
-  pub places-lt : size (units v) < 2099
+  pub places-lt : size (unitsOf v) < 2099
   places-lt = go v F P
     where
-      go : (v : Float) → T (fits binary64 v) → T (positive v) → size (units v) < 2099
+      go : (v : Float) → T (fits binary64 v) → T (positive v) → size (unitsOf v) < 2099
       go nan f p = absurd p
       go (inf s) f p = absurd p
       go (fin true m e) f p = absurd p
       go (fin false zero e) f p = absurd p
       go (fin false (suc m) e) f p =
-          let l = size-le (units (fin false (suc m) e)) 2098 (units-lt (suc m) e (value-small false m e f)) in
+          let l = size-le (unitsOf (fin false (suc m) e)) 2098 (units-lt (suc m) e (value-small false m e f)) in
           omega arith
 
   abbrev b' : ℕ
   b' = toBits binary64 v
 
   -- the field is 0: the pattern is the units
-  pub low-units : b' < 4503599627370496 → b' ≡ units v
+  pub low-units : b' < 4503599627370496 → b' ≡ unitsOf v
   low-units h =
       let s = shape in
       s .5 ∙ short (s .0) (s .1) (s .2) (s .3) (subst (λ (x : ℕ). x < 4503599627370496) (s .5) h) .1 ∙ sym (s .4)
@@ -203,7 +207,8 @@ module _ (v : Float) (F : T (fits binary64 v)) (P : T (positive v)) where
   high-digits h =
       let s = shape in
       let l = long (s .0) (s .1) (s .2) (s .3) (subst (λ (x : ℕ). 4503599627370496 ≤ x) (s .5) h) in
-      let t : b' % 4503599627370496 + 4503599627370496 ≡ s .0 * 2 ^ s .1 / 2 ^ (size (s .0 * 2 ^ s .1) - 53) = ap (λ (x : ℕ). x % 4503599627370496 + 4503599627370496) (s .5) ∙ l .1 in
+      let t : b' % 4503599627370496 + 4503599627370496 ≡ s .0 * 2 ^ s .1 / 2 ^ (size (s .0 * 2 ^ s .1) - 53) = ap
+      (λ (x : ℕ). x % 4503599627370496 + 4503599627370496) (s .5) ∙ l .1 in
       let z : b' / 4503599627370496 + 52 ≡ size (s .0 * 2 ^ s .1) = ap (λ (x : ℕ). x / 4503599627370496 + 52) (s .5) ∙ l .2 in
       record {
         value = rw (t, z, s .4) (long-value (s .0) (s .1) (s .2) (s .3) (l .0));

@@ -4,7 +4,8 @@ use mathlib.Core.Bool.{true, false, true≢false}
 use Prim.Native.Nat.{ℕ, zero, suc, _+_, _-_, _*_, _/_, _^_, _≤_, _<_, min}
 use native.Mathlib.Omega.{arith}
 use native.Mathlib.Numerals.{add-one}
-use native.Mathlib.Nat.{add-mul, one-mul, zero-mul, add-zero, mul-comm, mul-right-comm, mul-one, mul-le-mul-right, lt-of-mul-lt-mul-right, le-of-mul-le-mul-right, div-eq-of-lt-le, div-mul-le-self, div-lt-iff-lt-mul, lt-mul-div-succ}
+use native.Mathlib.Nat.{add-mul, one-mul, zero-mul, add-zero, mul-comm, mul-right-comm, mul-one, mul-le-mul-right, lt-of-mul-lt-mul-right}
+use native.Mathlib.Nat.{le-of-mul-le-mul-right, div-eq-of-lt-le, div-mul-le-self, div-lt-iff-lt-mul, lt-mul-div-succ}
 use lib.Dec.{T, lt→ltb, le→leb}
 use lib.IntN.{ℤ, pos, negsuc, negℤ, _-ℤ_}
 use lib.Ieee.{Float, nan, inf, fin, binary64, up, down, lt, le, ofInt, inFloat, toSigned, round}
@@ -61,7 +62,9 @@ unfolding lt
 not-below m e nan v = absurd v
 not-below m e (inf s) v = absurd v
 not-below m e (fin true p d) v = refl
-not-below m e (fin false p d) v = le-ltb (m * up e * down d) (p * up d * down e) (cross-ge (m * up e) (down e) (p * up d) (down d) (m * up e / down e) (v .1) (under (m * up e) (down e) (down-pos e)))
+not-below m e (fin false p d) v =
+    le-ltb (m * up e * down d) (p * up d * down e)
+    (cross-ge (m * up e) (down e) (p * up d) (down d) (m * up e / down e) (v .1) (under (m * up e) (down e) (down-pos e)))
 
 -- t is below y, and so its size above q; and t is not below y
 neg-below : (m : ℕ) (e : ℤ) (y : Float) (q : ℕ) → HasValue y true q 1 → lt (fin true m e) y ≡ true → q * down e < m * up e
@@ -76,7 +79,8 @@ unfolding lt
 neg-not-below m e nan q v h = absurd v
 neg-not-below m e (inf s) q v h = absurd v
 neg-not-below m e (fin false p d) q v h = absurd (true≢false (sym (v .0)))
-neg-not-below m e (fin true p d) q v h = cross-le (m * up e) (down e) (p * up d) (down d) q (down-pos d) (v .1) (ltb-false (p * up d * down e) (m * up e * down d) h)
+neg-not-below m e (fin true p d) q v h =
+    cross-le (m * up e) (down e) (p * up d) (down d) q (down-pos d) (v .1) (ltb-false (p * up d * down e) (m * up e * down d) h)
 
 -- at q = 0 the float is +0
 zero-below : (m : ℕ) (e : ℤ) → lt (fin true m e) (ofInt binary64 (pos 0)) ≡ true → 0 < m * up e
@@ -108,7 +112,8 @@ cut-is (inf s) h = absurd h
 cut-is (fin false m e) h = ap pos (small-cut (m * up e) (down e) (down-pos e) h)
 cut-is (fin true m e) h = ap (λ (n : ℕ). negℤ (pos n)) (small-cut2 (m * up e) (down e) (down-pos e) h)
 
-above-go : (m : ℕ) (e : ℤ) (q : ℕ) → m * up e / down e ≡ q → q < 2048 → lt (fin true m e) (ofInt binary64 (negℤ (pos q))) ≡ true → negℤ (pos q) -ℤ pos 1 ≡ floor (fin true m e)
+above-go : (m : ℕ) (e : ℤ) (q : ℕ) → m * up e / down e ≡ q → q < 2048 → lt (fin true m e) (ofInt binary64 (negℤ (pos q))) ≡ true → negℤ (pos q) -ℤ pos 1
+    ≡ floor (fin true m e)
 unfolding floor ofInt
 above-go m e zero i s h =
     let z = zero-below m e h in
@@ -119,7 +124,8 @@ above-go m e (suc j) i s h =
     let c = ceil-up (m * up e) (down e) (down-pos e) (rw i b) in
     rw (c, i, add-one) (ap (λ (n : ℕ). negsuc (suc n)) (add-zero j))
 
-level-go : (m : ℕ) (e : ℤ) (q : ℕ) → m * up e / down e ≡ q → q < 2048 → lt (fin true m e) (ofInt binary64 (negℤ (pos q))) ≡ false → negℤ (pos q) ≡ floor (fin true m e)
+level-go : (m : ℕ) (e : ℤ) (q : ℕ) → m * up e / down e ≡ q → q < 2048 → lt (fin true m e) (ofInt binary64 (negℤ (pos q))) ≡ false → negℤ (pos q)
+    ≡ floor (fin true m e)
 unfolding floor ofInt
 level-go m e zero i s h =
     let z = zero-not-below m e h in

@@ -3,7 +3,8 @@ use mathlib.Core.Path.{_≡_, refl, sym, _∙_, subst}
 use mathlib.Core.Bool.{true, false}
 use Prim.Native.Nat.{ℕ, zero, suc, _+_, _-_, _*_, _/_, _^_, _≤_, _<_}
 use native.Mathlib.Omega.{arith}
-use native.Mathlib.Nat.{zero-mul, mul-right-comm, mul-comm, add-mul, one-mul, mul-pos, zero-lt-suc, le-trans, le-of-eq, lt-irrefl, mul-le-mul-right, le-of-mul-le-mul-right, div-mul-le-self, lt-mul-div-succ, le-div-iff-mul-le, div-lt-iff-lt-mul, div-le-of-le-mul}
+use native.Mathlib.Nat.{zero-mul, mul-right-comm, mul-comm, add-mul, one-mul, mul-pos, zero-lt-suc, le-trans, le-of-eq, lt-irrefl, mul-le-mul-right}
+use native.Mathlib.Nat.{le-of-mul-le-mul-right, div-mul-le-self, lt-mul-div-succ, le-div-iff-mul-le, div-lt-iff-lt-mul, div-le-of-le-mul}
 use lib.Dec.{T, leb→le, le→leb}
 use lib.IntN.{ℤ, pos, negsuc, negℤ, _*ℤ_}
 use lib.Signed.{_≤ℤ_, leZ-yes}
@@ -66,7 +67,8 @@ never k (suc u) K h = h .le
 
 module _ (a d P : ℕ) (D : 0 < d) (Q : 0 < P) (exact : a * P / d * d ≡ a * P) where
   neg-largest : (j : ℤ) → (j *ℤ pos P) ≤ℤ negℤ (pos (a * P / d)) → j ≤ℤ negℤ (pos ((a + (d - 1)) / d))
-  neg-largest (pos zero) h = neg-le 0 ((a + (d - 1)) / d) (up-least a d P D Q exact 0 (neg-le-back (0 * P) (a * P / d) (rw (zero-mul P) (rw (zero-mul P) at h))))
+  neg-largest (pos zero) h =
+      neg-le 0 ((a + (d - 1)) / d) (up-least a d P D Q exact 0 (neg-le-back (0 * P) (a * P / d) (rw (zero-mul P) (rw (zero-mul P) at h))))
   neg-largest (pos (suc j)) h = absurd (never (suc j * P) (a * P / d) (mul-pos (zero-lt-suc j) Q) h)
   neg-largest (negsuc j) h = neg-le (suc j) ((a + (d - 1)) / d) (up-least a d P D Q exact (suc j) (neg-le-back (suc j * P) (a * P / d) h))
 

@@ -9,7 +9,7 @@ use native.Mathlib.Omega.{arith}
 use native.Mathlib.Numerals.{add-one}
 use lib.Dec.{T, leb, lit<, lit≤}
 use borrow.Author.Tests.{leb-true}
-use lib.Ieee.{Float, binary64, round, fits, eq}
+use lib.Ieee.{Float, binary64, round, fits}
 use lib.Ieee.Fits.{add-fits, div-fits}
 use lib.Ieee.Positive.{positive}
 use Rattle.floats.specs.Operators.{decimal, _⊕_, _⊗_, _⊘_, _≺_, _≼_}

@@ -3,7 +3,8 @@ use mathlib.Core.Path.{_≡_, refl, sym, ap, _∙_, subst}
 use mathlib.Core.Bool.{true, false, _&&_}
 use Prim.Native.Nat.{ℕ, zero, suc, _+_, _-_, _*_, _/_, _%_, _^_, _≤_, _<_}
 use native.Mathlib.Omega.{arith}
-use native.Mathlib.Nat.{mul-assoc, mul-right-comm, mul-one, le-trans, le-of-eq, lt-of-lt-of-le, lt-irrefl, lt-of-not-le, mul-le-mul-right, eq-of-mul-eq-mul-right, suc-add}
+use native.Mathlib.Nat.{mul-assoc, mul-right-comm, mul-one, le-trans, le-of-eq, lt-of-lt-of-le, lt-irrefl, lt-of-not-le, mul-le-mul-right}
+use native.Mathlib.Nat.{eq-of-mul-eq-mul-right, suc-add}
 use native.Mathlib.Decide.{decLe}
 use lib.Dec.{T, leb, ltb, eqb, lt→ltb, le→leb}
 use lib.IntN.{ℤ, pos, negsuc, negℤ, _+ℤ_, _-ℤ_}
@@ -36,7 +37,8 @@ size-shift a j p =
     let f : suc (size a - 1) ≡ size a = omega arith in
     let lo : 2 ^ s ≤ a = size-reaches a s (omega arith) in
     let hi : a < 2 ^ suc s = subst (λ (x : ℕ). a < 2 ^ x) (sym f) (size-lt a) in
-    size-is (a * 2 ^ j) (s + j) (le-trans (le-of-eq (pow-add 2 s j)) (mul-le-mul-right (2 ^ j) lo)) (subst (λ (x : ℕ). a * 2 ^ j < 2 ^ x) (suc-add s j) (shl-lt (suc s) j hi)) ∙ e
+    size-is (a * 2 ^ j) (s + j) (le-trans (le-of-eq (pow-add 2 s j)) (mul-le-mul-right (2 ^ j) lo))
+    (subst (λ (x : ℕ). a * 2 ^ j < 2 ^ x) (suc-add s j) (shl-lt (suc s) j hi)) ∙ e
 
 -- ---- the digits again: with a of s + 1 digits, d is a filled to 53
 module _ (a j d : ℕ) (P : 0 < a) (A : a < 9007199254740992) (W : d * 2 ^ size (a * 2 ^ j) ≡ a * 2 ^ j * 2 ^ 53) where
@@ -110,7 +112,8 @@ point-fits m e f =
     (and-i (A && B) (leb (down x) (2 ^ 1074)) (and-i A B (significand-odd false m e f) (lt→ltb (suc m) (2 ^ 53) M)) (le→leb _ _ (point-fine (suc m) M)))
     (lt→ltb _ _ (point-small (suc m) (size (suc m) - 1) M))
 
-pattern-of : (d n : ℕ) → n ≡ d * 2 ^ 1022 → 4503599627370496 ≤ d → d < 9007199254740992 → 0 + (size n - 53) * 4503599627370496 + n / 2 ^ (size n - 53) ≡ d + 4602678819172646912
+pattern-of : (d n : ℕ) → n ≡ d * 2 ^ 1022 → 4503599627370496 ≤ d → d < 9007199254740992 → 0 + (size n - 53) * 4503599627370496 + n / 2 ^ (size n - 53)
+    ≡ d + 4602678819172646912
 pattern-of d n e l h =
     let z : size n ≡ 1075 = ap size e ∙ size-shift d 1022 (omega arith) ∙ ap (λ (x : ℕ). x + 1022) (size-is d 52 l h) in
     let k : size n - 53 ≡ 1022 = omega arith in

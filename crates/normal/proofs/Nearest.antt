@@ -5,7 +5,8 @@ use mathlib.Core.Bool.{true, false}
 use mathlib.Core.Logic.{_⊎_, inl, inr}
 use Prim.Native.Nat.{ℕ, zero, suc, _+_, _-_, _*_, _/_, _%_, _^_, _≤_, _<_}
 use native.Mathlib.Omega.{arith}
-use native.Mathlib.Nat.{mul-comm, mul-assoc, mul-left-comm, one-mul, add-mul, le-trans, le-of-eq, le-of-lt, lt-of-lt-of-le, lt-of-le-of-lt, lt-irrefl, lt-of-not-le, le-antisymm, add-comm, mul-le-mul, mul-le-mul-right, mul-lt-mul-of-pos-right, mul-pos, eq-or-lt-of-le, mod-lt}
+use native.Mathlib.Nat.{mul-comm, mul-assoc, mul-left-comm, one-mul, add-mul, le-trans, le-of-eq, le-of-lt, lt-of-lt-of-le, lt-of-le-of-lt, lt-irrefl}
+use native.Mathlib.Nat.{lt-of-not-le, le-antisymm, add-comm, mul-le-mul, mul-le-mul-right, mul-lt-mul-of-pos-right, mul-pos, eq-or-lt-of-le, mod-lt}
 use native.Mathlib.Decide.{decLe}
 use lib.Dec.{T}
 use lib.Pow.{pow-add, pow-pos, pow-mono, shl-lt}
@@ -13,7 +14,7 @@ use lib.Ieee.{Float, nan, inf, fin, binary64, odd, fits, size, toBits}
 use lib.Ieee.Exact.{odd-sign}
 use lib.Ieee.Fits.{odd-fits}
 use lib.Ieee.Positive.{positive, positive-of-value}
-use Rattle.floats.specs.Wholes.{units}
+use Rattle.floats.specs.Wholes.{unitsOf}
 use Rattle.floats.proofs.Whole.{places}
 use Rattle.normal.specs.Root.{NearestRoot, sqrt, rootOfUnits, halfRoot, wholeRoot}
 use Rattle.normal.specs.Steps.{Digits}
@@ -27,7 +28,8 @@ module _ (x q : ℕ) (a : q * q ≤ 4 * x) (b : 4 * x < (q + 1) * (q + 1)) where
   R = (q + 1) / 2
 
   pub high-square : 4 * x < (2 * R + 1) * (2 * R + 1)
-  high-square = lt-of-lt-of-le b (mul-le-mul (let g : q + 1 ≤ 2 * ((q + 1) / 2) + 1 = omega arith in g) (let g : q + 1 ≤ 2 * ((q + 1) / 2) + 1 = omega arith in g))
+  high-square =
+      lt-of-lt-of-le b (mul-le-mul (let g : q + 1 ≤ 2 * ((q + 1) / 2) + 1 = omega arith in g) (let g : q + 1 ≤ 2 * ((q + 1) / 2) + 1 = omega arith in g))
 
   -- an odd square is no multiple of 4
   odd-square : (s : ℕ) → (2 * s + 1) * (2 * s + 1) ≡ 4 * x → ⊥
@@ -48,7 +50,9 @@ square-scaled : (s k : ℕ) → s * s * 2 ^ (2 * k) ≡ s * 2 ^ k * (s * 2 ^ k)
 square-scaled s k = ap (λ (x : ℕ). s * s * x) (double k) ∙ simp (mul-assoc, mul-left-comm)
 
 square-lt : (u w : ℕ) → u < w → u * u < w * w
-square-lt u w h = lt-of-lt-of-le (let g : u * u < (u + 1) * (u + 1) = omega arith in g) (mul-le-mul (let g : u + 1 ≤ w = omega arith in g) (let g : u + 1 ≤ w = omega arith in g))
+square-lt u w h =
+    lt-of-lt-of-le (let g : u * u < (u + 1) * (u + 1) = omega arith in g)
+    (mul-le-mul (let g : u + 1 ≤ w = omega arith in g) (let g : u + 1 ≤ w = omega arith in g))
 
 -- M is 4 * x, of root q; r is half of q, rounded
 module _ (x q k m j : ℕ) (a : q * q ≤ 4 * x) (b : 4 * x < (q + 1) * (q + 1)) (G : 9007199254740992 ≤ q) (M : m < 9007199254740992) where
@@ -66,7 +70,8 @@ module _ (x q k m j : ℕ) (a : q * q ≤ 4 * x) (b : 4 * x < (q + 1) * (q + 1))
     where
       go : Dec ((q + 1) / 2 ≤ 4503599627370496) → (m * 2 ^ j + (q + 1) / 2 * 2 ^ k) * (m * 2 ^ j + (q + 1) / 2 * 2 ^ k) < 4 * x * 2 ^ (2 * k)
       go (yes y) =
-          let l : m * 2 ^ j + (q + 1) / 2 * 2 ^ k < (2 * ((q + 1) / 2)) * 2 ^ k = (let e : 2 * ((q + 1) / 2) * 2 ^ k ≡ (q + 1) / 2 * 2 ^ k + (q + 1) / 2 * 2 ^ k = omega arith in omega arith) in
+          let l : m * 2 ^ j + (q + 1) / 2 * 2 ^ k < (2 * ((q + 1) / 2)) * 2 ^ k =
+          (let e : 2 * ((q + 1) / 2) * 2 ^ k ≡ (q + 1) / 2 * 2 ^ k + (q + 1) / 2 * 2 ^ k = omega arith in omega arith) in
           let g : 2 * ((q + 1) / 2) ≤ q = omega arith in
           lt-of-lt-of-le (square-lt (m * 2 ^ j + (q + 1) / 2 * 2 ^ k) (2 * ((q + 1) / 2) * 2 ^ k) l)
           (le-trans (le-of-eq (sym (square-scaled (2 * ((q + 1) / 2)) k))) (mul-le-mul-right (2 ^ (2 * k)) (le-trans (mul-le-mul g g) a)))
@@ -74,16 +79,20 @@ module _ (x q k m j : ℕ) (a : q * q ≤ 4 * x) (b : 4 * x < (q + 1) * (q + 1))
           let s = (q + 1) / 2 - 1 in
           let e : (q + 1) / 2 - 1 + 1 ≡ (q + 1) / 2 = omega arith in
           let n = next-down ((q + 1) / 2) k m j (lt-of-not-le f) M h in
-          let c : (2 * ((q + 1) / 2 - 1) + 1) * 2 ^ k + 2 ^ k ≡ (q + 1) / 2 * 2 ^ k + (q + 1) / 2 * 2 ^ k = ap (λ (t : ℕ). (2 * ((q + 1) / 2 - 1) + 1) * 2 ^ k + t) (sym (one-mul (2 ^ k))) ∙ sym (add-mul (2 * ((q + 1) / 2 - 1) + 1) 1 (2 ^ k)) ∙ ap (λ (t : ℕ). t * 2 ^ k) (let w : 2 * ((q + 1) / 2 - 1) + 1 + 1 ≡ (q + 1) / 2 + (q + 1) / 2 = omega arith in w) ∙ add-mul ((q + 1) / 2) ((q + 1) / 2) (2 ^ k) in
+          let c : (2 * ((q + 1) / 2 - 1) + 1) * 2 ^ k + 2 ^ k ≡ (q + 1) / 2 * 2 ^ k + (q + 1) / 2 * 2 ^ k = ap
+          (λ (t : ℕ). (2 * ((q + 1) / 2 - 1) + 1) * 2 ^ k + t) (sym (one-mul (2 ^ k))) ∙ sym (add-mul (2 * ((q + 1) / 2 - 1) + 1) 1 (2 ^ k))
+          ∙ ap (λ (t : ℕ). t * 2 ^ k) (let w : 2 * ((q + 1) / 2 - 1) + 1 + 1 ≡ (q + 1) / 2 + (q + 1) / 2 = omega arith in w)
+          ∙ add-mul ((q + 1) / 2) ((q + 1) / 2) (2 ^ k) in
           let l : m * 2 ^ j + (q + 1) / 2 * 2 ^ k ≤ (2 * ((q + 1) / 2 - 1) + 1) * 2 ^ k = omega arith in
           lt-of-le-of-lt (mul-le-mul l l)
-          (lt-of-le-of-lt (le-of-eq (sym (square-scaled (2 * ((q + 1) / 2 - 1) + 1) k))) (mul-lt-mul-of-pos-right (low-square x q a b ((q + 1) / 2 - 1) e) (pow-pos (2 * k))))
+          (lt-of-le-of-lt (le-of-eq (sym (square-scaled (2 * ((q + 1) / 2 - 1) + 1) k)))
+          (mul-lt-mul-of-pos-right (low-square x q a b ((q + 1) / 2 - 1) e) (pow-pos (2 * k))))
 
 -- ---- the theorem
 four : (n : ℕ) → 4 * (n * 2 ^ 1074) ≡ n * 2 ^ 1076
 four n = mul-comm 4 (n * 2 ^ 1074) ∙ mul-assoc n (2 ^ 1074) 4
 
-pub at-positive : (v : Float) → T (positive v) → rootOfUnits (units v) ≡ sqrt v
+pub at-positive : (v : Float) → T (positive v) → rootOfUnits (unitsOf v) ≡ sqrt v
 unfolding sqrt
 at-positive nan n = absurd n
 at-positive (inf s) n = absurd n
@@ -93,44 +102,47 @@ at-positive (fin false (suc m) e) n = refl
 
 module _ (v : Float) (F : T (fits binary64 v)) (P : T (positive v)) where
   abbrev n : ℕ
-  n = units v
+  n = unitsOf v
 
   abbrev k : ℕ
-  k = (size (units v) + 969) / 2
+  k = (size (unitsOf v) + 969) / 2
 
   -- what stands under the root, 53 or 54 digits t and 54 zeros
   Under : ℕ → Type 0
-  Under t = (4503599627370496 ≤ t) × (t + 1 < 18014398509481984) × (units v * 2 ^ 1076 / 2 ^ (2 * k) ≡ t * 18014398509481984) × (units v * 2 ^ 1076 ≡ t * 18014398509481984 * 2 ^ (2 * k))
+  Under t =
+      (4503599627370496 ≤ t) × (t + 1 < 18014398509481984) × (unitsOf v * 2 ^ 1076 / 2 ^ (2 * k) ≡ t * 18014398509481984) ×
+      (unitsOf v * 2 ^ 1076 ≡ t * 18014398509481984 * 2 ^ (2 * k))
 
   under-hi : (t : ℕ) → Under t → t + 1 < 18014398509481984
   unfolding Under
   under-hi t u = u .1
 
-  some-digits : (d : ℕ) × Digits v d (size (units v))
+  some-digits : (d : ℕ) × Digits v d (size (unitsOf v))
   some-digits = go (decLe 4503599627370496 (toBits binary64 v))
     where
-      at-size : (d z : ℕ) → Digits v d z → (d : ℕ) × Digits v d (size (units v))
+      at-size : (d z : ℕ) → Digits v d z → (d : ℕ) × Digits v d (size (unitsOf v))
       at-size d z D = (d, subst (λ (x : ℕ). Digits v d x) (D .places) D)
 
-      go : Dec (4503599627370496 ≤ toBits binary64 v) → (d : ℕ) × Digits v d (size (units v))
+      go : Dec (4503599627370496 ≤ toBits binary64 v) → (d : ℕ) × Digits v d (size (unitsOf v))
       go (yes y) = at-size _ _ (high-digits v F P y)
       go (no f) = at-size _ _ (low-digits v F P (lt-of-not-le f))
 
   under : (t : ℕ) × Under t
   unfolding Under
-  under = go (some-digits .0) (some-digits .1) (size (units v) % 2) refl (mod-lt (size (units v)) (omega arith))
+  under = go (some-digits .0) (some-digits .1) (size (unitsOf v) % 2) refl (mod-lt (size (unitsOf v)) (omega arith))
     where
-      go : (d : ℕ) → Digits v d (size (units v)) → (p : ℕ) → size (units v) % 2 ≡ p → p < 2 → (t : ℕ) × Under t
+      go : (d : ℕ) → Digits v d (size (unitsOf v)) → (p : ℕ) → size (unitsOf v) % 2 ≡ p → p < 2 → (t : ℕ) × Under t
       go d D zero e l = (2 * d, (omega (arith, D .low), omega (arith, D .high), under-even n d (size n) (D .value) e, under-even-mul n d (size n) (D .value) e))
       go d D (suc p) e l =
-          let o : size (units v) % 2 ≡ 0 → ⊥ = λ (z : size (units v) % 2 ≡ 0). lt-irrefl 0 (omega arith) in
+          let o : size (unitsOf v) % 2 ≡ 0 → ⊥ = λ (z : size (unitsOf v) % 2 ≡ 0). lt-irrefl 0 (omega arith) in
           (d, (D .low, omega (arith, D .high), under-odd n d (size n) (D .value) o, under-odd-mul n d (size n) (D .value) o))
 
-  from-root : (t q : ℕ) → Under t → q * q ≤ t * 18014398509481984 → t * 18014398509481984 < (q + 1) * (q + 1) → (r : Float) → units r ≡ (q + 1) / 2 * 2 ^ k → T (fits binary64 r) → T (positive r) → NearestRoot v r
+  from-root : (t q : ℕ) → Under t → q * q ≤ t * 18014398509481984 → t * 18014398509481984 < (q + 1) * (q + 1) → (r : Float) → unitsOf r ≡ (q + 1) / 2 * 2 ^ k
+      → T (fits binary64 r) → T (positive r) → NearestRoot v r
   unfolding Under
   from-root t q u a b r e f p =
-      let N : 4 * (units v * 2 ^ 1074) ≡ 4 * (t * 4503599627370496) * 2 ^ (2 * k) =
-      four (units v) ∙ u .3 ∙ ap (λ (x : ℕ). x * 2 ^ (2 * k)) (let g : t * 18014398509481984 ≡ 4 * (t * 4503599627370496) = omega arith in g) in
+      let N : 4 * (unitsOf v * 2 ^ 1074) ≡ 4 * (t * 4503599627370496) * 2 ^ (2 * k) =
+      four (unitsOf v) ∙ u .3 ∙ ap (λ (x : ℕ). x * 2 ^ (2 * k)) (let g : t * 18014398509481984 ≡ 4 * (t * 4503599627370496) = omega arith in g) in
       let G = q-ge t q (u .0) (u .1) a b in
       let a' : q * q ≤ 4 * (t * 4503599627370496) = omega arith in
       let b' : 4 * (t * 4503599627370496) < (q + 1) * (q + 1) = omega arith in
@@ -139,19 +151,22 @@ module _ (v : Float) (F : T (fits binary64 v)) (P : T (positive v)) where
         sign = p;
         above = λ (y : Float) fy py h.
             let w = fit-units y fy py in
-            subst (λ (x : ℕ). x < (units y + units r) * (units y + units r)) (sym N)
-            (subst (λ (x : ℕ). 4 * (t * 4503599627370496) * 2 ^ (2 * k) < x * x) (ap (λ (x : ℕ). x + (q + 1) / 2 * 2 ^ k) (sym (w .3)) ∙ ap (λ (x : ℕ). units y + x) (sym e))
+            subst (λ (x : ℕ). x < (unitsOf y + unitsOf r) * (unitsOf y + unitsOf r)) (sym N)
+            (subst (λ (x : ℕ). 4 * (t * 4503599627370496) * 2 ^ (2 * k) < x * x)
+            (ap (λ (x : ℕ). x + (q + 1) / 2 * 2 ^ k) (sym (w .3)) ∙ ap (λ (x : ℕ). unitsOf y + x) (sym e))
             (squares-above (t * 4503599627370496) q k (w .0) (w .1) a' b' G (w .2)
-            (subst (λ (x : ℕ). (q + 1) / 2 * 2 ^ k < x) (w .3) (subst (λ (x : ℕ). x < units y) e h))));
+            (subst (λ (x : ℕ). (q + 1) / 2 * 2 ^ k < x) (w .3) (subst (λ (x : ℕ). x < unitsOf y) e h))));
         below = λ (y : Float) fy py h.
             let w = fit-units y fy py in
-            subst (λ (x : ℕ). (units y + units r) * (units y + units r) < x) (sym N)
-            (subst (λ (x : ℕ). x * x < 4 * (t * 4503599627370496) * 2 ^ (2 * k)) (ap (λ (x : ℕ). x + (q + 1) / 2 * 2 ^ k) (sym (w .3)) ∙ ap (λ (x : ℕ). units y + x) (sym e))
+            subst (λ (x : ℕ). (unitsOf y + unitsOf r) * (unitsOf y + unitsOf r) < x) (sym N)
+            (subst (λ (x : ℕ). x * x < 4 * (t * 4503599627370496) * 2 ^ (2 * k))
+            (ap (λ (x : ℕ). x + (q + 1) / 2 * 2 ^ k) (sym (w .3)) ∙ ap (λ (x : ℕ). unitsOf y + x) (sym e))
             (squares-below (t * 4503599627370496) q k (w .0) (w .1) a' b' G (w .2)
-            (subst (λ (x : ℕ). x < (q + 1) / 2 * 2 ^ k) (w .3) (subst (λ (x : ℕ). units y < x) e h))));
+            (subst (λ (x : ℕ). x < (q + 1) / 2 * 2 ^ k) (w .3) (subst (λ (x : ℕ). unitsOf y < x) e h))));
       }
 
-  root-fits : (t q : ℕ) → Under t → q * q ≤ t * 18014398509481984 → t * 18014398509481984 < (q + 1) * (q + 1) → T (fits binary64 (odd 53 false ((q + 1) / 2) k 1074))
+  root-fits : (t q : ℕ) → Under t → q * q ≤ t * 18014398509481984 → t * 18014398509481984 < (q + 1) * (q + 1)
+      → T (fits binary64 (odd 53 false ((q + 1) / 2) k 1074))
   unfolding Under
   root-fits t q u a b =
       let l = q-lt t q (u .0) (u .1) a b in
@@ -163,7 +178,8 @@ module _ (v : Float) (F : T (fits binary64 v)) (P : T (positive v)) where
   unfolding Under
   root-sign t q u a b =
       let g = q-ge t q (u .0) (u .1) a b in
-      positive-of-value (odd 53 false ((q + 1) / 2) k 1074) ((q + 1) / 2 * 2 ^ k) (2 ^ 1074) (odd-sign 53 false ((q + 1) / 2) k 1074) (mul-pos (omega arith) (pow-pos k))
+      positive-of-value (odd 53 false ((q + 1) / 2) k 1074) ((q + 1) / 2 * 2 ^ k) (2 ^ 1074) (odd-sign 53 false ((q + 1) / 2) k 1074)
+      (mul-pos (omega arith) (pow-pos k))
 
   sqrt-is : (t : ℕ) → Under t → sqrt v ≡ odd 53 false ((wholeRoot 54 (t * 18014398509481984) + 1) / 2) k 1074
   unfolding Under rootOfUnits halfRoot
@@ -177,7 +193,8 @@ module _ (v : Float) (F : T (fits binary64 v)) (P : T (positive v)) where
       let q = wholeRoot 54 (under .0 * 18014398509481984) in
       let i = wholeRoot-is 54 (under .0 * 18014398509481984) (under-lt (under .0) (under .1)) in
       subst (λ (r : Float). NearestRoot v r) (sym (sqrt-is t u))
-      (from-root t q u (i .0) (i .1) (odd 53 false ((q + 1) / 2) k 1074) (odd-units ((q + 1) / 2) k) (root-fits t q u (i .0) (i .1)) (root-sign t q u (i .0) (i .1)))
+      (from-root t q u (i .0) (i .1) (odd 53 false ((q + 1) / 2) k 1074) (odd-units ((q + 1) / 2) k) (root-fits t q u (i .0) (i .1))
+      (root-sign t q u (i .0) (i .1)))
     where
       under-lt : (t : ℕ) → Under t → t * 18014398509481984 < 2 ^ 108
       under-lt t u = let l = under-hi t u in omega arith
@@ -186,15 +203,16 @@ module _ (v : Float) (F : T (fits binary64 v)) (P : T (positive v)) where
 pub root-unique : (v r s : Float) → NearestRoot v r → NearestRoot v s → r ≡ s
 root-unique v r s R S = same-units r s (R .held) (S .held) (R .sign) (S .sign) (le-antisymm (at-most R S) (at-most S R))
   where
-    at-most : {x y : Float} → NearestRoot v x → NearestRoot v y → units x ≤ units y
-    at-most {x} {y} X Y = go (decLe (units x) (units y))
+    at-most : {x y : Float} → NearestRoot v x → NearestRoot v y → unitsOf x ≤ unitsOf y
+    at-most {x} {y} X Y = go (decLe (unitsOf x) (unitsOf y))
       where
-        clash : units y < units x → ⊥
+        clash : unitsOf y < unitsOf x → ⊥
         clash h =
-            lt-irrefl (4 * (units v * 2 ^ 1074))
+            lt-irrefl (4 * (unitsOf v * 2 ^ 1074))
             (lt-of-lt-of-le (Y .above x (X .held) (positive-not-negative x (X .sign)) h)
-            (le-of-lt (subst (λ (n : ℕ). n * n < 4 * (units v * 2 ^ 1074)) (add-comm (units y) (units x)) (X .below y (Y .held) (positive-not-negative y (Y .sign)) h))))
+            (le-of-lt (subst (λ (n : ℕ). n * n < 4 * (unitsOf v * 2 ^ 1074)) (add-comm (unitsOf y) (unitsOf x))
+            (X .below y (Y .held) (positive-not-negative y (Y .sign)) h))))
 
-        go : Dec (units x ≤ units y) → units x ≤ units y
+        go : Dec (unitsOf x ≤ unitsOf y) → unitsOf x ≤ unitsOf y
         go (yes l) = l
         go (no f) = absurd (clash (lt-of-not-le f))

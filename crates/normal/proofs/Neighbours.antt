@@ -4,7 +4,8 @@ use mathlib.Core.Path.{_≡_, refl, sym, ap, _∙_, subst}
 use mathlib.Core.Bool.{true, false}
 use Prim.Native.Nat.{ℕ, zero, suc, _+_, _-_, _*_, _/_, _^_, _≤_, _<_}
 use native.Mathlib.Omega.{arith}
-use native.Mathlib.Nat.{mul-assoc, zero-mul, le-trans, le-of-eq, le-of-lt, lt-of-lt-of-le, lt-irrefl, lt-of-not-le, mul-le-mul-right, lt-of-mul-lt-mul-right, mul-div-cancel, div-eq-of-lt}
+use native.Mathlib.Nat.{mul-assoc, zero-mul, le-trans, le-of-eq, le-of-lt, lt-of-lt-of-le, lt-irrefl, lt-of-not-le, mul-le-mul-right, lt-of-mul-lt-mul-right}
+use native.Mathlib.Nat.{mul-div-cancel, div-eq-of-lt}
 use native.Mathlib.Decide.{decLe}
 use lib.Dec.{T}
 use lib.Pow.{pow-add, pow-mono, shl-lt}
@@ -13,20 +14,20 @@ use lib.Ieee.Exact.{HasValue, odd-sign}
 use lib.Ieee.Fits.{down-pos}
 use lib.Ieee.Bits.{ofBits-toBits}
 use lib.Ieee.Positive.{positive}
-use Rattle.floats.specs.Wholes.{units}
+use Rattle.floats.specs.Wholes.{unitsOf}
 use Rattle.floats.proofs.Whole.{significand-lt, exponent-fine, places, units-are}
 use Rattle.normal.specs.Root.{notNegative}
 
 -- ---- a float's units
-value-units : (x : Float) (a : ℕ) → HasValue x false a (2 ^ 1074) → units x ≡ a
+value-units : (x : Float) (a : ℕ) → HasValue x false a (2 ^ 1074) → unitsOf x ≡ a
 value-units nan a h = absurd h
 value-units (inf s) a h = absurd h
 value-units (fin s m e) a h = ap (λ (n : ℕ). n / down e) (h .1) ∙ mul-div-cancel a (down-pos e)
 
-pub odd-units : (r k : ℕ) → units (odd 53 false r k 1074) ≡ r * 2 ^ k
+pub odd-units : (r k : ℕ) → unitsOf (odd 53 false r k 1074) ≡ r * 2 ^ k
 odd-units r k = value-units (odd 53 false r k 1074) (r * 2 ^ k) (odd-sign 53 false r k 1074)
 
-pub fit-units : (y : Float) → T (fits binary64 y) → T (notNegative y) → (m : ℕ) × (j : ℕ) × (m < 9007199254740992) × (units y ≡ m * 2 ^ j)
+pub fit-units : (y : Float) → T (fits binary64 y) → T (notNegative y) → (m : ℕ) × (j : ℕ) × (m < 9007199254740992) × (unitsOf y ≡ m * 2 ^ j)
 fit-units nan f p = absurd p
 fit-units (inf s) f p = absurd p
 fit-units (fin s zero e) f p = (0, 0, omega arith, ap (λ (n : ℕ). n * 2 ^ 1074 / down e) (zero-mul (up e)) ∙ div-eq-of-lt (down-pos e))
@@ -56,7 +57,8 @@ pub next-down : (r k m j : ℕ) → 4503599627370496 < r → m < 900719925474099
 next-down r k m j R M h = go (decLe k j)
   where
     step : (a : ℕ) → a < r → a * 2 ^ k + 2 ^ k ≤ r * 2 ^ k
-    step a l = le-trans (le-of-eq (let e : a * 2 ^ k + 2 ^ k ≡ (a + 1) * 2 ^ k = omega arith in e)) (mul-le-mul-right (2 ^ k) (let g : a + 1 ≤ r = omega arith in g))
+    step a l =
+        le-trans (le-of-eq (let e : a * 2 ^ k + 2 ^ k ≡ (a + 1) * 2 ^ k = omega arith in e)) (mul-le-mul-right (2 ^ k) (let g : a + 1 ≤ r = omega arith in g))
 
     go : Dec (k ≤ j) → m * 2 ^ j + 2 ^ k ≤ r * 2 ^ k
     go (yes y) =
@@ -70,14 +72,14 @@ next-down r k m j R M h = go (decLe k j)
 abbrev patternOf : ℕ → ℕ
 patternOf n = 0 + (size n - 53) * 4503599627370496 + n / 2 ^ (size n - 53)
 
-pattern-is : (x : Float) → T (positive x) → toBits binary64 x ≡ patternOf (units x)
+pattern-is : (x : Float) → T (positive x) → toBits binary64 x ≡ patternOf (unitsOf x)
 unfolding toBits
 pattern-is nan p = absurd p
 pattern-is (inf s) p = absurd p
 pattern-is (fin true m e) p = absurd p
 pattern-is (fin false m e) p = refl
 
-pub same-units : (x y : Float) → T (fits binary64 x) → T (fits binary64 y) → T (positive x) → T (positive y) → units x ≡ units y → x ≡ y
+pub same-units : (x y : Float) → T (fits binary64 x) → T (fits binary64 y) → T (positive x) → T (positive y) → unitsOf x ≡ unitsOf y → x ≡ y
 same-units x y fx fy px py e =
     sym (ofBits-toBits binary64 x fx)
     ∙ ap (ofBits binary64) (pattern-is x px ∙ ap patternOf e ∙ sym (pattern-is y py))

@@ -5,7 +5,8 @@ use mathlib.Core.Bool.{Bool, true, false, not, _&&_, cond}
 use mathlib.Core.Logic.{_⊎_, inl, inr}
 use Prim.Native.Nat.{ℕ, zero, suc, _+_, _-_, _*_, _/_, _^_, _≤_, _<_}
 use native.Mathlib.Omega.{arith}
-use native.Mathlib.Nat.{one-mul, add-mul, mul-assoc, zero-mul, zero-div, mul-pos, le-trans, le-of-eq, lt-irrefl, lt-of-lt-of-le, lt-of-le-of-lt, lt-of-not-le, mul-le-mul-right, mul-lt-mul-of-pos-right, eq-or-lt-of-le}
+use native.Mathlib.Nat.{one-mul, add-mul, mul-assoc, zero-mul, zero-div, mul-pos, le-trans, le-of-eq, lt-irrefl, lt-of-lt-of-le, lt-of-le-of-lt, lt-of-not-le}
+use native.Mathlib.Nat.{mul-le-mul-right, mul-lt-mul-of-pos-right, eq-or-lt-of-le}
 use native.Mathlib.Decide.{decLe}
 use borrow.Author.Tests.{ltb-true, ltb-false}
 use lib.Dec.{T, leb, ltb, eqb, leb→le, ltb→lt, eqb→eq, nleb→lt, lt→ltb}
@@ -15,7 +16,7 @@ use lib.Ieee.{Float, nan, inf, fin, binary64, up, down, size, fits, round}
 use lib.Ieee.Fits.{and-l, and-r, round-fits}
 use lib.Ieee.Positive.{positive}
 use Rattle.floats.specs.Values.{finite}
-use Rattle.floats.specs.Wholes.{units}
+use Rattle.floats.specs.Wholes.{unitsOf}
 use Rattle.normal.specs.Tables.{factorial, E, L, lastE, lastL, miss, NearestReciprocal, Rules}
 use Rattle.normal.proofs.Table.{every, at}
 use Rattle.normal.proofs.Largest.{neg-mul}
@@ -31,7 +32,7 @@ middles d r k =
     leb 4503599627370496 r && ltb (2 * 2 ^ 1074) ((2 * (r * 2 ^ k) + 2 ^ k) * d) && ltb ((2 * (r * 2 ^ k) - stepDown r k) * d) (2 * 2 ^ 1074)
 
 unfoldable pub isNearest : ℕ → Float → Bool
-isNearest d x = let n = units x in let k = size n - 53 in positive x && eqb (n / 2 ^ k * 2 ^ k) n && middles d (n / 2 ^ k) k
+isNearest d x = let n = unitsOf x in let k = size n - 53 in positive x && eqb (n / 2 ^ k * 2 ^ k) n && middles d (n / 2 ^ k) k
 
 -- ---- the neighbour below
 step-le : (r k : ℕ) → 4503599627370496 ≤ r → stepDown r k ≤ r * 2 ^ k
@@ -52,9 +53,11 @@ at-power r zero m j e M h = h' (m * 2 ^ j) (r * 1) h
 at-power r (suc k) m j e M h =
     let s : suc k ≡ 1 + k = omega arith in
     let t : r * 2 ^ suc k ≡ 9007199254740992 * 2 ^ k =
-    ap (λ (x : ℕ). x * 2 ^ suc k) e ∙ ap (λ (x : ℕ). 4503599627370496 * x) (ap (λ (x : ℕ). 2 ^ x) s ∙ pow-add 2 1 k) ∙ sym (mul-assoc 4503599627370496 2 (2 ^ k)) in
+    ap (λ (x : ℕ). x * 2 ^ suc k) e ∙ ap (λ (x : ℕ). 4503599627370496 * x) (ap (λ (x : ℕ). 2 ^ x) s ∙ pow-add 2 1 k)
+    ∙ sym (mul-assoc 4503599627370496 2 (2 ^ k)) in
     let z : suc k - 1 ≡ k = omega arith in
-    le-trans (le-of-eq (ap (λ (x : ℕ). m * 2 ^ j + 2 ^ x) z)) (le-trans (next-down 9007199254740992 k m j (omega arith) M (subst (λ (x : ℕ). m * 2 ^ j < x) t h)) (le-of-eq (sym t)))
+    le-trans (le-of-eq (ap (λ (x : ℕ). m * 2 ^ j + 2 ^ x) z))
+    (le-trans (next-down 9007199254740992 k m j (omega arith) M (subst (λ (x : ℕ). m * 2 ^ j < x) t h)) (le-of-eq (sym t)))
 
 step-down : (r k m j : ℕ) → 4503599627370496 ≤ r → m < 9007199254740992 → m * 2 ^ j < r * 2 ^ k → m * 2 ^ j + stepDown r k ≤ r * 2 ^ k
 step-down r k m j R M h = go (leb r 4503599627370496) (leb→le r 4503599627370496) (nleb→lt r 4503599627370496)
@@ -87,7 +90,8 @@ nearer-below a b p h k = omega arith
 nearer-negative : (a b p : ℕ) → 0 < a → a < 2 * p → (a - p) + (p - a) < b + p
 nearer-negative a b p h k = omega arith
 
-module _ (d r k P : ℕ) (D : 0 < d) (R : 4503599627370496 ≤ r) (up-mid : 2 * P < (2 * (r * 2 ^ k) + 2 ^ k) * d) (down-mid : (2 * (r * 2 ^ k) - stepDown r k) * d < 2 * P) where
+module _ (d r k P : ℕ) (D : 0 < d) (R : 4503599627370496 ≤ r) (up-mid : 2 * P < (2 * (r * 2 ^ k) + 2 ^ k) * d)
+    (down-mid : (2 * (r * 2 ^ k) - stepDown r k) * d < 2 * P) where
   abbrev n : ℕ
   n = r * 2 ^ k
 
@@ -116,15 +120,15 @@ module _ (d r k P : ℕ) (D : 0 < d) (R : 4503599627370496 ≤ r) (up-mid : 2 * 
       nearer-negative (n * d) b P (mul-pos n-pos D) (lt-of-le-of-lt (mul-le-mul-right d l) down-mid)
 
 -- ---- the floats
-miss-pos : (d m : ℕ) (e : ℤ) → miss d (fin false m e) ≡ (units (fin false m e) * d - 2 ^ 1074) + (2 ^ 1074 - units (fin false m e) * d)
+miss-pos : (d m : ℕ) (e : ℤ) → miss d (fin false m e) ≡ (unitsOf (fin false m e) * d - 2 ^ 1074) + (2 ^ 1074 - unitsOf (fin false m e) * d)
 unfolding miss
-miss-pos d m e = apart-pos (units (fin false m e) * d) (2 ^ 1074)
+miss-pos d m e = apart-pos (unitsOf (fin false m e) * d) (2 ^ 1074)
 
-miss-neg : (d m : ℕ) (e : ℤ) → miss d (fin true m e) ≡ units (fin true m e) * d + 2 ^ 1074
+miss-neg : (d m : ℕ) (e : ℤ) → miss d (fin true m e) ≡ unitsOf (fin true m e) * d + 2 ^ 1074
 unfolding miss
-miss-neg d m e = ap (λ (z : ℤ). natAbs (z -ℤ pos (2 ^ 1074))) (neg-mul (units (fin true m e)) d) ∙ apart-neg (units (fin true m e) * d) (2 ^ 1074)
+miss-neg d m e = ap (λ (z : ℤ). natAbs (z -ℤ pos (2 ^ 1074))) (neg-mul (unitsOf (fin true m e)) d) ∙ apart-neg (unitsOf (fin true m e) * d) (2 ^ 1074)
 
-miss-positive : (d : ℕ) (x : Float) → T (positive x) → miss d x ≡ (units x * d - 2 ^ 1074) + (2 ^ 1074 - units x * d)
+miss-positive : (d : ℕ) (x : Float) → T (positive x) → miss d x ≡ (unitsOf x * d - 2 ^ 1074) + (2 ^ 1074 - unitsOf x * d)
 miss-positive d nan p = absurd p
 miss-positive d (inf s) p = absurd p
 miss-positive d (fin true m e) p = absurd p
@@ -133,11 +137,11 @@ miss-positive d (fin false m e) p = miss-pos d m e
 no-units : (e : ℤ) → 0 * up e * 2 ^ 1074 / down e ≡ 0
 no-units e = simp (zero-mul, zero-div)
 
-positive-of-units : (m : ℕ) (e : ℤ) → 0 < units (fin false m e) → T (positive (fin false m e))
+positive-of-units : (m : ℕ) (e : ℤ) → 0 < unitsOf (fin false m e) → T (positive (fin false m e))
 positive-of-units zero e h = absurd (lt-irrefl 0 (subst (λ (n : ℕ). 0 < n) (no-units e) h))
 positive-of-units (suc m) e h = lt→ltb 0 (suc m) (omega arith)
 
-module _ (d r k : ℕ) (x : Float) (D : 0 < d) (F : T (fits binary64 x)) (P : T (positive x)) (R : 4503599627370496 ≤ r) (u : units x ≡ r * 2 ^ k)
+module _ (d r k : ℕ) (x : Float) (D : 0 < d) (F : T (fits binary64 x)) (P : T (positive x)) (R : 4503599627370496 ≤ r) (u : unitsOf x ≡ r * 2 ^ k)
     (up-mid : 2 * 2 ^ 1074 < (2 * (r * 2 ^ k) + 2 ^ k) * d) (down-mid : (2 * (r * 2 ^ k) - stepDown r k) * d < 2 * 2 ^ 1074) where
   own-miss : miss d x ≡ (r * 2 ^ k * d - 2 ^ 1074) + (2 ^ 1074 - r * 2 ^ k * d)
   own-miss = miss-positive d x P ∙ ap (λ (n : ℕ). (n * d - 2 ^ 1074) + (2 ^ 1074 - n * d)) u
@@ -147,21 +151,25 @@ module _ (d r k : ℕ) (x : Float) (D : 0 < d) (F : T (fits binary64 x)) (P : T 
   farther (inf s) f g ne = absurd g
   farther (fin true m e) f g ne =
       subst (λ (n : ℕ). n < miss d (fin true m e)) (sym own-miss)
-      (subst (λ (n : ℕ). (r * 2 ^ k * d - 2 ^ 1074) + (2 ^ 1074 - r * 2 ^ k * d) < n) (sym (miss-neg d m e)) (miss-negative d r k (2 ^ 1074) D R up-mid down-mid (units (fin true m e) * d)))
+      (subst (λ (n : ℕ). (r * 2 ^ k * d - 2 ^ 1074) + (2 ^ 1074 - r * 2 ^ k * d) < n) (sym (miss-neg d m e))
+      (miss-negative d r k (2 ^ 1074) D R up-mid down-mid (unitsOf (fin true m e) * d)))
   farther (fin false m e) f g ne = go (fit-units (fin false m e) f tt)
     where
-      goal : (a j : ℕ) → units (fin false m e) ≡ a * 2 ^ j → (r * 2 ^ k * d - 2 ^ 1074) + (2 ^ 1074 - r * 2 ^ k * d) < (a * 2 ^ j * d - 2 ^ 1074) + (2 ^ 1074 - a * 2 ^ j * d) → miss d x < miss d (fin false m e)
+      goal : (a j : ℕ) → unitsOf (fin false m e) ≡ a * 2 ^ j
+          → (r * 2 ^ k * d - 2 ^ 1074) + (2 ^ 1074 - r * 2 ^ k * d) < (a * 2 ^ j * d - 2 ^ 1074) + (2 ^ 1074 - a * 2 ^ j * d)
+          → miss d x < miss d (fin false m e)
       goal a j w l =
           subst (λ (n : ℕ). n < miss d (fin false m e)) (sym own-miss)
-          (subst (λ (n : ℕ). (r * 2 ^ k * d - 2 ^ 1074) + (2 ^ 1074 - r * 2 ^ k * d) < n) (sym (miss-pos d m e ∙ ap (λ (n : ℕ). (n * d - 2 ^ 1074) + (2 ^ 1074 - n * d)) w)) l)
+          (subst (λ (n : ℕ). (r * 2 ^ k * d - 2 ^ 1074) + (2 ^ 1074 - r * 2 ^ k * d) < n)
+          (sym (miss-pos d m e ∙ ap (λ (n : ℕ). (n * d - 2 ^ 1074) + (2 ^ 1074 - n * d)) w)) l)
 
-      same : (a j : ℕ) → units (fin false m e) ≡ a * 2 ^ j → a * 2 ^ j ≡ r * 2 ^ k → ⊥
+      same : (a j : ℕ) → unitsOf (fin false m e) ≡ a * 2 ^ j → a * 2 ^ j ≡ r * 2 ^ k → ⊥
       same a j w q =
           ne (same-units (fin false m e) x f F
           (positive-of-units m e (subst (λ (n : ℕ). 0 < n) (sym (w ∙ q)) (n-pos d r k (2 ^ 1074) D R up-mid down-mid)))
           P (w ∙ q ∙ sym u))
 
-      sorted : (a j : ℕ) → a < 9007199254740992 → units (fin false m e) ≡ a * 2 ^ j → Dec (r * 2 ^ k ≤ a * 2 ^ j) → miss d x < miss d (fin false m e)
+      sorted : (a j : ℕ) → a < 9007199254740992 → unitsOf (fin false m e) ≡ a * 2 ^ j → Dec (r * 2 ^ k ≤ a * 2 ^ j) → miss d x < miss d (fin false m e)
       sorted a j A w (no h) = goal a j w (miss-below d r k (2 ^ 1074) D R up-mid down-mid a j A (lt-of-not-le h))
       sorted a j A w (yes h) = over (eq-or-lt-of-le h)
         where
@@ -169,15 +177,15 @@ module _ (d r k : ℕ) (x : Float) (D : 0 < d) (F : T (fits binary64 x)) (P : T 
           over (inl q) = absurd (same a j w (sym q))
           over (inr l) = goal a j w (miss-above d r k (2 ^ 1074) D R up-mid down-mid a j A l)
 
-      go : ((a : ℕ) × (j : ℕ) × (a < 9007199254740992) × (units (fin false m e) ≡ a * 2 ^ j)) → miss d x < miss d (fin false m e)
+      go : ((a : ℕ) × (j : ℕ) × (a < 9007199254740992) × (unitsOf (fin false m e) ≡ a * 2 ^ j)) → miss d x < miss d (fin false m e)
       go w = sorted (w .0) (w .1) (w .2) (w .3) (decLe (r * 2 ^ k) (w .0 * 2 ^ w .1))
 
 -- the test passed
 pub nearest-of-test : (d : ℕ) (x : Float) → 0 < d → T (fits binary64 x) → T (isNearest d x) → NearestReciprocal d x
 unfolding isNearest
-nearest-of-test d x D F t = parts (units x) (size (units x) - 53) refl t
+nearest-of-test d x D F t = parts (unitsOf x) (size (unitsOf x) - 53) refl t
   where
-    parts : (n k : ℕ) → units x ≡ n → T (positive x && eqb (n / 2 ^ k * 2 ^ k) n && middles d (n / 2 ^ k) k) → NearestReciprocal d x
+    parts : (n k : ℕ) → unitsOf x ≡ n → T (positive x && eqb (n / 2 ^ k * 2 ^ k) n && middles d (n / 2 ^ k) k) → NearestReciprocal d x
     parts n k u t =
         let r = n / 2 ^ k in
         let A = leb 4503599627370496 r in

@@ -146,10 +146,12 @@ plus-neg (inf s) h = absurd h
 plus-neg (fin false m e) h = absurd (true≢false (sym (h .0)))
 plus-neg (fin true m e) h = go (ltb (m * up e * 2) (1 * 1 * down e)) (ltb (1 * 1 * down e) (m * up e * 2))
   where
-    go : (x y : Bool) → InRange (cond x (round binary64 false (1 * 1 * down e - m * up e * 2) (down e * 2)) (round binary64 (true && y) (m * up e * 2 - 1 * 1 * down e) (down e * 2)))
+    go : (x y : Bool) → InRange
+        (cond x (round binary64 false (1 * 1 * down e - m * up e * 2) (down e * 2)) (round binary64 (true && y) (m * up e * 2 - 1 * 1 * down e) (down e * 2)))
     go true y =
         let d = down-pos e in
-        weaken false 8172 _ (lit≤ tt) (λ z. lit≤ tt) (rounded false (1 * 1 * down e - m * up e * 2) (down e * 2) 8172 (omega arith) (lit< tt) (omega (arith, h .1)))
+        weaken false 8172 _ (lit≤ tt) (λ z. lit≤ tt)
+        (rounded false (1 * 1 * down e - m * up e * 2) (down e * 2) 8172 (omega arith) (lit< tt) (omega (arith, h .1)))
     go false y =
         let d = down-pos e in
         weaken y 8172 _ (lit≤ tt) (λ z. lit≤ tt) (rounded y (m * up e * 2 - 1 * 1 * down e) (down e * 2) 8172 (omega arith) (lit< tt) (omega (arith, h .1)))
@@ -161,7 +163,8 @@ unfolding lt round neg
 in-range nan n h l = absurd (true≢false (sym nan-differs ∙ n))
 in-range (inf false) n h l = absurd (true≢false h)
 in-range (inf true) n h l = absurd (true≢false l)
-in-range (fin false m e) n h l = let k = ltb-false (709 * 1 * down e) (m * up e * 1) h in plus-pos (mul binary64 (fin false m e) c) (times-pos m e (omega arith))
+in-range (fin false m e) n h l =
+    let k = ltb-false (709 * 1 * down e) (m * up e * 1) h in plus-pos (mul binary64 (fin false m e) c) (times-pos m e (omega arith))
 in-range (fin true m e) n h l = let k = ltb-false (177 * 4 * down e) (m * up e * 1) l in plus-neg (mul binary64 (fin true m e) c) (times-neg m e (omega arith))
 
 pub range-small : (t : Float) → InRange t → Small t

@@ -3,7 +3,8 @@ use mathlib.Core.Path.{_≡_, refl, sym, ap, _∙_, subst}
 use mathlib.Core.Bool.{Bool, true, false, cond, not}
 use Prim.Native.Nat.{ℕ, zero, suc, _+_, _-_, _*_, _/_, _%_, _^_, _≤_, _<_}
 use native.Mathlib.Omega.{arith}
-use native.Mathlib.Nat.{mul-comm, mul-assoc, div-eq-of-lt, div-le-self, div-lt-iff-lt-mul, lt-of-lt-of-le, lt-of-le-of-lt, lt-irrefl, lt-of-not-le, mul-le-mul, le-antisymm, mod-lt}
+use native.Mathlib.Nat.{mul-comm, mul-assoc, div-eq-of-lt, div-le-self, div-lt-iff-lt-mul, lt-of-lt-of-le, lt-of-le-of-lt, lt-irrefl, lt-of-not-le, mul-le-mul}
+use native.Mathlib.Nat.{le-antisymm, mod-lt}
 use lib.Dec.{T, leb, leb→le, nleb→lt}
 use lib.Pow.{pow-add, pow-mono, shl-lt, shr-shr, shl-shr}
 use lib.Ieee.{binary64, ofBits, odd, nanBits, isNan}
@@ -42,9 +43,9 @@ grown-lt t n h l = lt-of-lt-of-le (shl-lt 54 (2 * n) h) (pow-mono {i = 54 + 2 * 
 unfoldable pub IsRoot : ℕ → ℕ → Type 0
 IsRoot n r = (r * r ≤ n) × (n < (r + 1) * (r + 1))
 
-pub root-unique : (n q r : ℕ) → IsRoot n q → IsRoot n r → q ≡ r
+pub whole-root-unique : (n q r : ℕ) → IsRoot n q → IsRoot n r → q ≡ r
 unfolding IsRoot
-root-unique n q r a b = le-antisymm (go q r (a .0) (b .1)) (go r q (b .0) (a .1))
+whole-root-unique n q r a b = le-antisymm (go q r (a .0) (b .1)) (go r q (b .0) (a .1))
   where
     go : (x y : ℕ) → x * x ≤ n → n < (y + 1) * (y + 1) → x ≤ y
     go x y l h = let g = root-lt x (y + 1) (lt-of-le-of-lt l h) in omega arith
@@ -54,7 +55,8 @@ unfolding wholeRoot IsRoot
 wholeRoot-is zero n h = let e : n < 1 = h in (omega arith, omega arith)
 wholeRoot-is (suc k) n h =
     let e : 2 * suc k ≡ 2 * k + 2 = omega arith in
-    let b : n / 4 < 2 ^ (2 * k) = div-lt-iff-lt-mul {k = 4} {x = n} {y = 2 ^ (2 * k)} (omega arith) .1 (subst (λ (x : ℕ). n < x) (ap (λ (x : ℕ). 2 ^ x) e ∙ pow-add 2 (2 * k) 2) h) in
+    let b : n / 4 < 2 ^ (2 * k) = div-lt-iff-lt-mul {k = 4} {x = n} {y = 2 ^ (2 * k)} (omega arith) .1
+    (subst (λ (x : ℕ). n < x) (ap (λ (x : ℕ). 2 ^ x) e ∙ pow-add 2 (2 * k) 2) h) in
     let i = wholeRoot-is k (n / 4) b in
     go (wholeRoot k (n / 4)) (i .0) (i .1)
   where
@@ -66,7 +68,9 @@ wholeRoot-is (suc k) n h =
     go : (r : ℕ) → r * r ≤ n / 4 → n / 4 < (r + 1) * (r + 1)
         → (cond (leb ((2 * r + 1) * (2 * r + 1)) n) (2 * r + 1) (2 * r) * cond (leb ((2 * r + 1) * (2 * r + 1)) n) (2 * r + 1) (2 * r) ≤ n)
         × (n < (cond (leb ((2 * r + 1) * (2 * r + 1)) n) (2 * r + 1) (2 * r) + 1) * (cond (leb ((2 * r + 1) * (2 * r + 1)) n) (2 * r + 1) (2 * r) + 1))
-    go r l h = pick (2 * r) (omega arith) (omega arith) (leb ((2 * r + 1) * (2 * r + 1)) n) (leb→le ((2 * r + 1) * (2 * r + 1)) n) (nleb→lt ((2 * r + 1) * (2 * r + 1)) n)
+    go r l h =
+        pick (2 * r) (omega arith) (omega arith) (leb ((2 * r + 1) * (2 * r + 1)) n) (leb→le ((2 * r + 1) * (2 * r + 1)) n)
+        (nleb→lt ((2 * r + 1) * (2 * r + 1)) n)
 
 odd-no-nan : (r k : ℕ) → isNan (odd 53 false r k 1074) ≡ false
 unfolding odd isNan
@@ -78,7 +82,8 @@ unfolding halfRoot
 half-is-no-nan n k = odd-no-nan _ k
 
 -- ---- half the root, rounded, has 53 digits
-module _ (t q : ℕ) (lo : 4503599627370496 ≤ t) (hi : t + 1 < 18014398509481984) (a : q * q ≤ t * 18014398509481984) (b : t * 18014398509481984 < (q + 1) * (q + 1)) where
+module _ (t q : ℕ) (lo : 4503599627370496 ≤ t) (hi : t + 1 < 18014398509481984) (a : q * q ≤ t * 18014398509481984)
+    (b : t * 18014398509481984 < (q + 1) * (q + 1)) where
   pub q-ge : 9007199254740992 ≤ q
   q-ge = let g = root-lt 9007199254740992 (q + 1) (omega arith) in omega arith
 
@@ -87,7 +92,7 @@ module _ (t q : ℕ) (lo : 4503599627370496 ≤ t) (hi : t + 1 < 180143985094819
 
   pub is-wholeRoot : wholeRoot 54 (t * 18014398509481984) ≡ q
   unfolding IsRoot
-  is-wholeRoot = root-unique (t * 18014398509481984) (wholeRoot 54 (t * 18014398509481984)) q (wholeRoot-is 54 (t * 18014398509481984) below) (a, b)
+  is-wholeRoot = whole-root-unique (t * 18014398509481984) (wholeRoot 54 (t * 18014398509481984)) q (wholeRoot-is 54 (t * 18014398509481984) below) (a, b)
     where
       below : t * 18014398509481984 < 2 ^ 108
       below = omega arith
@@ -108,13 +113,16 @@ module _ (t q : ℕ) (lo : 4503599627370496 ≤ t) (hi : t + 1 < 180143985094819
         ∙ ap (λ (x : ℕ). odd 53 false ((x + 1) / 2) k 1074) (sym is-wholeRoot)
 
     pub half-no-nan : T (not (nanBits binary64 ((q + 1) / 2 + k * 4503599627370496)))
-    half-no-nan = subst (λ (x : Bool). T (not x)) (sym (nanBits-is binary64 ((q + 1) / 2 + k * 4503599627370496) ∙ ap isNan half-bits ∙ half-is-no-nan (t * 18014398509481984) k)) tt
+    half-no-nan =
+        subst (λ (x : Bool). T (not x))
+        (sym (nanBits-is binary64 ((q + 1) / 2 + k * 4503599627370496) ∙ ap isNan half-bits ∙ half-is-no-nan (t * 18014398509481984) k)) tt
 
 -- ---- what stands under the root
 module _ (n d z : ℕ) (e : d * 2 ^ z ≡ n * 2 ^ 53) where
   whole-units : n * 2 ^ 1076 ≡ d * 2 ^ (z + 1023)
   whole-units =
-      sym (mul-assoc n (2 ^ 53) (2 ^ 1023)) ∙ ap (λ (x : ℕ). x * 2 ^ 1023) (sym e) ∙ mul-assoc d (2 ^ z) (2 ^ 1023) ∙ ap (λ (x : ℕ). d * x) (sym (pow-add 2 z 1023))
+      sym (mul-assoc n (2 ^ 53) (2 ^ 1023)) ∙ ap (λ (x : ℕ). x * 2 ^ 1023) (sym e) ∙ mul-assoc d (2 ^ z) (2 ^ 1023)
+      ∙ ap (λ (x : ℕ). d * x) (sym (pow-add 2 z 1023))
 
   cut-mul : (c j : ℕ) → z + 1023 ≡ c + j → n * 2 ^ 1076 ≡ d * 2 ^ c * 2 ^ j
   cut-mul c j f = whole-units ∙ ap (λ (x : ℕ). d * 2 ^ x) f ∙ ap (λ (x : ℕ). d * x) (pow-add 2 c j) ∙ sym (mul-assoc d (2 ^ c) (2 ^ j))
@@ -136,7 +144,9 @@ module _ (n d z : ℕ) (e : d * 2 ^ z ≡ n * 2 ^ 53) where
   under-odd h = let g = odd-part h in cut 54 (2 * ((z + 969) / 2)) (omega arith)
 
   pub under-even-mul : z % 2 ≡ 0 → n * 2 ^ 1076 ≡ 2 * d * 18014398509481984 * 2 ^ (2 * ((z + 969) / 2))
-  under-even-mul h = cut-mul 55 (2 * ((z + 969) / 2)) (omega arith) ∙ ap (λ (x : ℕ). x * 2 ^ (2 * ((z + 969) / 2))) (let g : d * 36028797018963968 ≡ 2 * d * 18014398509481984 = omega arith in g)
+  under-even-mul h =
+      cut-mul 55 (2 * ((z + 969) / 2)) (omega arith)
+      ∙ ap (λ (x : ℕ). x * 2 ^ (2 * ((z + 969) / 2))) (let g : d * 36028797018963968 ≡ 2 * d * 18014398509481984 = omega arith in g)
 
   pub under-odd-mul : (z % 2 ≡ 0 → ⊥) → n * 2 ^ 1076 ≡ d * 18014398509481984 * 2 ^ (2 * ((z + 969) / 2))
   under-odd-mul h = let g = odd-part h in cut-mul 54 (2 * ((z + 969) / 2)) (omega arith)

@@ -3,12 +3,15 @@
 use mathlib.Core.Path.{_≡_, ap, _∙_, subst, sym}
 use mathlib.Core.Bool.{Bool, true, _&&_}
 use mathlib.Core.List.{List, [], _∷_}
-use Prim.Native.Nat.{ℕ, zero, suc, _+_, _<_}
-use native.Mathlib.Nat.{add-zero, zero-add, add-suc, suc-add, le-of-suc-le-suc, not-suc-le-zero}
+use Prim.Native.Nat.{ℕ, zero, suc, _+_, _-_, _≤_, _<_}
+use native.Mathlib.Omega.{arith}
+use native.Mathlib.Nat.{le-refl, add-zero, zero-add, add-suc, suc-add, le-of-suc-le-suc, not-suc-le-zero}
 use lib.Dec.{T}
 use lib.ListN.{getD}
 use lib.Ieee.{Float, nan}
 use lib.Ieee.Fits.{and-l, and-r}
+use Rattle.floats.specs.Operators.{_⊕_, _⊗_}
+use Rattle.normal.specs.Tables.{horner, polynomial, entryOf}
 
 -- the test f passes at each of n places, counted from i
 unfoldable pub every : (ℕ → Bool) → ℕ → ℕ → Bool
@@ -38,5 +41,18 @@ entry-from f (suc n) i zero h = ap f (sym (add-zero i))
 entry-from f (suc n) i (suc k) h = entry-from f n (suc i) k (le-of-suc-le-suc h) ∙ ap f (suc-add i k ∙ sym (add-suc i k))
 
 -- the array of the code is the table
-pub entry : (f : ℕ → Float) (n : ℕ) (array : List Float) → array ≡ entries f 0 n → (k : ℕ) → k < n → getD array k nan ≡ f k
+entry : (f : ℕ → Float) (n : ℕ) (array : List Float) → array ≡ entries f 0 n → (k : ℕ) → k < n → getD array k nan ≡ f k
 entry f n array e k h = ap (λ (xs : List Float). getD xs k nan) e ∙ entry-from f n 0 k h ∙ ap f (zero-add k)
+
+-- tables that agree have the same sum
+same-horner : (f g : ℕ → Float) (degree : ℕ) (x : Float) (n : ℕ) → n ≤ degree → ((k : ℕ) → k < suc degree → f k ≡ g k)
+    → horner f degree x n ≡ horner g degree x n
+unfolding horner
+same-horner f g degree x zero h e = e degree (omega arith)
+same-horner f g degree x (suc n) h e =
+    ap (λ (p : Float). p ⊗ x ⊕ f (degree - 1 - n)) (same-horner f g degree x n (omega arith) e)
+    ∙ ap (λ (y : Float). horner g degree x n ⊗ x ⊕ y) (e (degree - 1 - n) (omega arith))
+
+pub polynomial-of : (f : ℕ → Float) (degree : ℕ) (array : List Float) → array ≡ entries f 0 (suc degree) → (x : Float)
+    → polynomial (entryOf array) degree x ≡ polynomial f degree x
+polynomial-of f degree array e x = same-horner (entryOf array) f degree x degree (le-refl degree) (entry f (suc degree) array e)

@@ -6,7 +6,7 @@ use lib.IntN.{ℤ, pos, negℤ, _*ℤ_}
 use lib.Signed.{_≤ℤ_}
 use lib.Ieee.{Float, nan, inf, fin, binary64, up, down, neg, isNan, ofInt}
 use Rattle.floats.specs.Operators.{decimal, _⊕_, _⊖_, _⊗_, _≺_, if_then_else_}
-use Rattle.floats.specs.Wholes.{whole}
+use Rattle.floats.specs.Wholes.{wholeOf}
 use Rattle.normal.specs.Tables.{E, polynomial}
 
 -- fdlibm's split of ln 2: H = 0.693147180369123816490, J = 1.90821492927058770002e-10.
@@ -30,7 +30,7 @@ expDegree = 13
 -- ---- "the largest whole number not above"
 -- k ≤ x, for a finite x: both over 2^1074.
 abbrev pub notAbove : ℤ → Float → Type 0
-notAbove k x = (k *ℤ pos (2 ^ 1074)) ≤ℤ whole x
+notAbove k x = (k *ℤ pos (2 ^ 1074)) ≤ℤ wholeOf x
 
 pub record LargestNotAbove (x : Float) (k : ℤ) : Type 0 where
   pub not-above : notAbove k x

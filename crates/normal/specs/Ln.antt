@@ -9,7 +9,7 @@ use lib.IntN.{ℤ, pos, negℤ, _+ℤ_}
 use lib.Ieee.{Float, nan, inf, fin, binary64, up, down, fits, ofInt, size}
 use lib.Ieee.Positive.{positive}
 use Rattle.floats.specs.Operators.{decimal, _⊕_, _⊖_, _⊗_, _⊘_, _≺_, if_then_else_}
-use Rattle.floats.specs.Wholes.{units}
+use Rattle.floats.specs.Wholes.{unitsOf}
 use Rattle.normal.specs.Tables.{L, polynomial}
 use Rattle.normal.specs.Exp.{H, J}
 
@@ -22,9 +22,9 @@ lnDegree = 10
 pub record TakenApart (v m : Float) (e : ℤ) : Type 0 where
   pub held : T (fits binary64 m)
   pub sign : T (positive m)
-  pub value : units v * down e ≡ units m * up e
-  pub at-least-1 : 2 ^ 1074 ≤ units m
-  pub below-2 : units m < 2 * 2 ^ 1074
+  pub value : unitsOf v * down e ≡ unitsOf m * up e
+  pub at-least-1 : 2 ^ 1074 ≤ unitsOf m
+  pub below-2 : unitsOf m < 2 * 2 ^ 1074
 
 -- The digits of v with the point after the first one, and how far it was moved.
 unfoldable pub mantissa : Float → Float

@@ -6,7 +6,7 @@ use lib.Dec.{T, leb}
 use lib.Ieee.{Float, nan, inf, fin, size, odd, fits, binary64}
 use lib.Ieee.Positive.{positive}
 use Rattle.floats.specs.Operators.{if_then_else_}
-use Rattle.floats.specs.Wholes.{units}
+use Rattle.floats.specs.Wholes.{unitsOf}
 
 -- ---- the statement by squares
 -- Finite, with the sign clear.
@@ -21,8 +21,10 @@ notNegative (fin s m e) = not s
 pub record NearestRoot (v r : Float) : Type 0 where
   pub held : T (fits binary64 r)
   pub sign : T (positive r)
-  pub above : (y : Float) → T (fits binary64 y) → T (notNegative y) → units r < units y → 4 * (units v * 2 ^ 1074) < (units y + units r) * (units y + units r)
-  pub below : (y : Float) → T (fits binary64 y) → T (notNegative y) → units y < units r → (units y + units r) * (units y + units r) < 4 * (units v * 2 ^ 1074)
+  pub above : (y : Float) → T (fits binary64 y) → T (notNegative y) → unitsOf r < unitsOf y
+      → 4 * (unitsOf v * 2 ^ 1074) < (unitsOf y + unitsOf r) * (unitsOf y + unitsOf r)
+  pub below : (y : Float) → T (fits binary64 y) → T (notNegative y) → unitsOf y < unitsOf r
+      → (unitsOf y + unitsOf r) * (unitsOf y + unitsOf r) < 4 * (unitsOf v * 2 ^ 1074)
 
 -- ---- the root, computed
 -- The largest r with r × r ≤ n, for n below 4^k: one more binary digit a round.
@@ -46,7 +48,7 @@ unfolding rootOfUnits
 sqrt nan = nan
 sqrt (inf s) = if s then nan else inf false
 sqrt (fin s zero e) = fin s zero e
-sqrt (fin s (suc m) e) = if s then nan else rootOfUnits (units (fin s (suc m) e))
+sqrt (fin s (suc m) e) = if s then nan else rootOfUnits (unitsOf (fin s (suc m) e))
 
 -- What `sqrt` promises of its result, however it runs.
 pub record SquareRoot (v r : Float) : Type 0 where

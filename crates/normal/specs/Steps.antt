@@ -6,12 +6,12 @@ use lib.Dec.{ltb, leb}
 use lib.IntN.{ℤ, pos, negsuc}
 use lib.Ieee.{Float, nan, inf, fin, up, down, size, eq, neg}
 use Rattle.floats.specs.Operators.{decimal, _⊖_, _≺_, _≼_, if_then_else_}
-use Rattle.floats.specs.Wholes.{units}
+use Rattle.floats.specs.Wholes.{unitsOf}
 
 -- v is z binary digits of units, and t is those digits cut or filled to 53: v = t × 2^(z - 53 - 1074)
 pub record Digits (v : Float) (t z : ℕ) : Type 0 where
-  pub value : t * 2 ^ z ≡ units v * 2 ^ 53
-  pub places : z ≡ size (units v)
+  pub value : t * 2 ^ z ≡ unitsOf v * 2 ^ 53
+  pub places : z ≡ size (unitsOf v)
   pub low : 2 ^ 52 ≤ t
   pub high : t < 2 ^ 53
   pub small : z < 2099

@@ -1,13 +1,15 @@
 -- Document 01, 'Tables': "E[i] is the f64 nearest 1/i!, i 0 to 13; L[i] the f64 nearest 1/(2i+1), i 0 to 10; each rule proved over its table."
 use mathlib.Core.Path.{_≡_}
+use mathlib.Core.List.{List}
 use Prim.Native.Nat.{ℕ, zero, suc, _+_, _-_, _*_, _^_, _≤_, _<_}
 use lib.Dec.{T}
 use lib.IntN.{pos, natAbs, _*ℤ_, _-ℤ_}
-use lib.Ieee.{Float, fits, binary64}
+use lib.ListN.{getD}
+use lib.Ieee.{Float, nan, fits, binary64}
 use lib.Ieee.Positive.{positive}
 use Rattle.floats.specs.Operators.{decimal, _⊕_, _⊗_}
 use Rattle.floats.specs.Values.{finite}
-use Rattle.floats.specs.Wholes.{whole}
+use Rattle.floats.specs.Wholes.{wholeOf}
 
 unfoldable pub factorial : ℕ → ℕ
 factorial zero = 1
@@ -31,7 +33,7 @@ lastL = 10
 -- ---- the rule, in whole numbers
 -- How far y is from 1 / d: the distance times d, over 2^1074.
 unfoldable pub miss : ℕ → Float → ℕ
-miss d y = natAbs (whole y *ℤ pos d -ℤ pos (2 ^ 1074))
+miss d y = natAbs (wholeOf y *ℤ pos d -ℤ pos (2 ^ 1074))
 
 -- x is the f64 nearest to 1 / d: an f64 above 0, and every other finite f64 misses by more.
 pub record NearestReciprocal (d : ℕ) (x : Float) : Type 0 where
@@ -53,3 +55,7 @@ horner table degree x (suc n) = horner table degree x n ⊗ x ⊕ table (degree 
 -- After all rounds.
 abbrev pub polynomial : (ℕ → Float) → ℕ → Float → Float
 polynomial table degree x = horner table degree x degree
+
+-- The entries of an array as a table.
+abbrev pub entryOf : List Float → ℕ → Float
+entryOf array i = getD array i nan

@@ -3,13 +3,14 @@ ghost use mathlib.Core.Path.{_≡_};
 ghost use lib.Dec.{T};
 ghost use lib.Signed.{mag};
 ghost use lib.Ieee.Positive.{positive};
-ghost use Prim.Native.Nat.{_+_, _*_, _/_, _^_, _≤_, _<_};
+ghost use lib.ListN.{length};
+ghost use Prim.Native.Nat.{_+_, _-_, _*_, _/_, _^_, _≤_, _<_};
 ghost use mathlib.Core.Bool.{true, false};
 ghost use Rattle.floats.specs.Operators.{decimal, _≺_};
-ghost use Rattle.normal.specs.Tables.{E, L, polynomial};
+ghost use Rattle.normal.specs.Tables.{entryOf, polynomial};
 ghost use Rattle.normal.specs.Root.{SquareRoot, halfRoot};
-ghost use Rattle.normal.specs.Exp.{exp, floor, twoTo, expDegree};
-ghost use Rattle.normal.specs.Ln.{ln, lnAt, lnFrom, lnDegree};
+ghost use Rattle.normal.specs.Exp.{exp, floor, twoTo};
+ghost use Rattle.normal.specs.Ln.{ln, lnAt, lnFrom};
 ghost use Rattle.normal.specs.Erfc.{series, terms, fraction, levels, erfc, erfcFromZero};
 ghost use Rattle.normal.specs.Normal.{pdf, cdf};
 ghost use Rattle.normal.specs.Steps.{Digits, Stepped, inExponent, Small, settled, upright, mirrored};
@@ -48,28 +49,19 @@ const L: [f64; 11] = [
     0.047619047619047616,
 ];
 
-fn horner_e(r: f64) -> f64
-    ensures { λ p. ⌜ p ≡ polynomial E expDegree r ⌝ }
+// The sum over a table, from its last entry down.
+fn horner(table: &[f64], x: f64) -> f64
+    requires { ⌜ 0 < length (now table) ⌝ }
+    ensures { λ p. ⌜ p ≡ polynomial (entryOf (now (table .entry))) (length (now (table .entry)) - 1) x ⌝ }
 {
-    let mut p = E[13];
+    let degree = table.len() - 1;
+    let mut p = table[degree];
     let mut n: usize = 0;
-    while n < 13 {
-        p = p * r + E[12 - n];
+    while n < degree {
+        p = p * x + table[degree - 1 - n];
         n += 1;
     }
     p
-}
-
-fn horner_l(w: f64) -> f64
-    ensures { λ q. ⌜ q ≡ polynomial L lnDegree w ⌝ }
-{
-    let mut q = L[10];
-    let mut n: usize = 0;
-    while n < 10 {
-        q = q * w + L[9 - n];
-        n += 1;
-    }
-    q
 }
 
 // Whether round n left the sum as it was for good: each later term is at most g, since w is at most 8 and each later divisor above 8.
@@ -169,7 +161,7 @@ pub fn exp(v: f64) -> f64
     let k = floor(v * 1.4426950408889634 + 0.5);
     let f = k as f64;
     let r = (v - f * 0.693147180369123816490) - f * 1.90821492927058770002e-10;
-    horner_e(r) * two_to(k)
+    horner(&E, r) * two_to(k)
 }
 
 // erfc of two values under 2, by the series.
@@ -323,7 +315,7 @@ fn ln_at(m: f64, e: i64) -> f64
     ensures { λ r. ⌜ r ≡ lnAt m e ⌝ }
 {
     let z = (m - 1.0) / (m + 1.0);
-    let q = horner_l(z * z);
+    let q = horner(&L, z * z);
     let f = e as f64;
     f * 0.693147180369123816490 + ((2.0 * z) * q + f * 1.90821492927058770002e-10)
 }

@@ -2,6 +2,7 @@
 // program computes the answer anew and compares, and writes each line that differs and the totals by kind. oracle/src/bin/sample.rs writes the sample and
 // says what a line holds.
 ghost use Prim.Native.Nat.{_+_, _*_, _≤_, _<_};
+use brent::Solution;
 use chart::Built;
 use greeks::Greeks;
 use greeks::Implied;
@@ -220,36 +221,33 @@ fn judge_greeks(line: &[u8; 240]) -> bool {
 }
 
 // A number, four values and the evaluations.
-fn holds_answer(
-    line: &[u8; 240],
-    number: u64,
-    volatility: f64,
-    error: f64,
-    c: f64,
-    c_error: f64,
-    evaluations: u64,
-) -> bool {
-    let values = holds(line, 7, volatility)
-        & holds(line, 8, error)
-        & holds(line, 9, c)
-        & holds(line, 10, c_error);
-    values & (word(line, 6) == number) & (word(line, 11) == evaluations)
+fn holds_answer(line: &[u8; 240], number: u64, x: Solution) -> bool {
+    let values = holds(line, 7, x.volatility)
+        & holds(line, 8, x.error)
+        & holds(line, 9, x.c)
+        & holds(line, 10, x.c_error);
+    values & (word(line, 6) == number) & (word(line, 11) == x.evaluations)
+}
+
+// The values beside a number.
+fn zeros(evaluations: u64) -> Solution {
+    Solution {
+        volatility: 0.0,
+        error: 0.0,
+        c: 0.0,
+        c_error: 0.0,
+        evaluations,
+    }
 }
 
 fn judge_solve(line: &[u8; 240]) -> bool {
     let answer = greeks::implied_volatility(float(line, 1), option(line, 2, 0.0));
     match answer {
-        Implied::Found {
-            volatility,
-            error,
-            c,
-            c_error,
-            evaluations,
-        } => holds_answer(line, 0, volatility, error, c, c_error, evaluations),
+        Implied::Found { solution } => holds_answer(line, 0, solution),
         Implied::Refused {
             number,
             evaluations,
-        } => holds_answer(line, number, 0.0, 0.0, 0.0, 0.0, evaluations),
+        } => holds_answer(line, number, zeros(evaluations)),
     }
 }
 

@@ -1,6 +1,6 @@
 // A volatility surface of quotes: axes, cells and counts, as `VolSurface::from_points` of src/options/surface.rs makes them.
 ghost use mathlib.Core.Path.{_≡_};
-ghost use mathlib.Core.Bool.{true, _&&_};
+ghost use mathlib.Core.Bool.{true, _&&_, _||_};
 ghost use mathlib.Core.List.{_∷_, _++_};
 ghost use Prim.Native.Nat.{suc, _+_, _-_, _≤_, _<_};
 ghost use lib.Dec.{T, ltb, eqb};
@@ -9,14 +9,15 @@ ghost use lib.Ieee.{nan};
 ghost use lib.Ieee.Positive.{positive};
 ghost use Rattle.floats.specs.Operators.{decimal, _≺_, _⊘_, if_then_else_};
 ghost use Rattle.limits.specs.Ranges.{isStrike, isExpiry, isVolatility};
-ghost use Rattle.limits.specs.Checks.{first, none};
+ghost use Rattle.limits.specs.Checks.{none};
 ghost use Rattle.grid.specs.Search.{firstWhere};
 ghost use Rattle.grid.specs.Layout.{cellAt, values};
-ghost use Rattle.chart.specs.Quotes.{quotes, allInRange};
+ghost use Rattle.chart.specs.Quotes.{columnsOf, quotes, allInRange};
 ghost use Rattle.chart.specs.Axis.{insert, thinned, axis, place};
 ghost use Rattle.chart.specs.Cells.{source};
-ghost use Rattle.chart.specs.Steps.{axesOf, Alike, Pos, Ascending, reaches, OnAxis, OnAxes, Blank, Filed, held, RowsWritten, CellsWritten};
-ghost use Rattle.chart.specs.Build.{front, refusal, Builds};
+ghost use Rattle.chart.specs.Steps.{axesOf, Alike, Pos, Ascending, reaches, OnAxis, OnAxes, Blank, Filed, held, CellsWritten};
+ghost use Rattle.chart.specs.Steps.{numberBy, axesRefusal, Planned, Accepted};
+ghost use Rattle.chart.specs.Build.{buffersOf, front, table, surfaceOf, Builds};
 use chart::Built;
 
 // The index of the first of the n values above x, or n: by halves, since they ascend.
@@ -156,13 +157,13 @@ fn place(axis: &[f64], x: f64) -> usize
     at
 }
 
-// Where the cell of a quote stands, which has one.
-fn home(columns: &[f64], rows: &[f64], strike: f64, expiry: f64) -> usize
-    requires { ⌜ OnAxis (now rows) expiry × OnAxis (now columns) strike × (length (now rows) ≤ 32) × (length (now columns) ≤ 64) ⌝ }
-    ensures { λ r. ⌜ (r ≡ cellAt (place (now (rows .entry)) expiry) (place (now (columns .entry)) strike)) × (r < 2048) ⌝ }
+// Where the cell of a quote stands, which has one: ks and ts are the axes.
+fn home(ks: &[f64], ts: &[f64], strike: f64, expiry: f64) -> usize
+    requires { ⌜ OnAxis (now ts) expiry × OnAxis (now ks) strike × (length (now ts) ≤ 32) × (length (now ks) ≤ 64) ⌝ }
+    ensures { λ r. ⌜ (r ≡ cellAt (place (now (ts .entry)) expiry) (place (now (ks .entry)) strike)) × (r < 2048) ⌝ }
 {
-    let row = place(rows, expiry);
-    let column = place(columns, strike);
+    let row = place(ts, expiry);
+    let column = place(ks, strike);
     64 * row + column
 }
 
@@ -174,18 +175,20 @@ fn tally(
     expiries: &[f64],
     volatilities: &[f64],
     n: usize,
-    columns: &[f64],
-    rows: &[f64],
+    ks: &[f64],
+    ts: &[f64],
 )
-    requires { ⌜ (length (now columns) ≤ 64) × (length (now rows) ≤ 32) × (length (now sums) ≡ 2048) × (length (now numbers) ≡ 2048) ⌝ }
+    requires { ⌜ (length (now ks) ≤ 64) × (length (now ts) ≤ 32) × (length (now sums) ≡ 2048) × (length (now numbers) ≡ 2048) ⌝ }
     requires { ⌜ (n ≤ 1024) × (n ≤ length (now strikes)) × (n ≤ length (now expiries)) × (n ≤ length (now volatilities)) ⌝ }
-    requires { ⌜ OnAxes (axesOf (now columns) (now rows)) (quotes n (now strikes) (now expiries) (now volatilities)) ⌝ }
+    requires { ⌜ OnAxes (axesOf (now ks) (now ts)) (quotes (columnsOf (now strikes) (now expiries) (now volatilities)) n) ⌝ }
     requires { ⌜ Blank (now sums) (now numbers) ⌝ }
-    ensures { λ _. ⌜ Filed (axesOf (now (columns .entry)) (now (rows .entry))) (quotes n (now (strikes .entry)) (now (expiries .entry)) (now (volatilities .entry))) (now (sums .exit)) (now (numbers .exit)) ⌝ }
+    ensures { λ _. ⌜ Filed (axesOf (now (ks .entry)) (now (ts .entry)))
+        (quotes (columnsOf (now (strikes .entry)) (now (expiries .entry)) (now (volatilities .entry))) n)
+        (now (sums .exit)) (now (numbers .exit)) ⌝ }
 {
     let mut i = 0;
     while i < n {
-        let at = home(columns, rows, strikes[i], expiries[i]);
+        let at = home(ks, ts, strikes[i], expiries[i]);
         sums[at] = sums[at] + volatilities[i];
         numbers[at] = numbers[at] + 1;
         i += 1;
@@ -205,17 +208,17 @@ fn mean_or_last(last: f64, sum: f64, number: u32) -> f64
     if number == 0 { last } else { mean(sum, number) }
 }
 
-// The first counted column of a row, which those before it take their value from; 0 where none is counted.
-fn first_counted(numbers: &[u32]) -> usize
-    ensures { λ r. ⌜ r ≡ source (λ k. getD (now (numbers .entry)) k 0) (length (now (numbers .entry))) 0 ⌝ }
+// The first counted of the n columns of the row at a, which those before it take their value from; 0 where none is counted.
+fn first_counted(numbers: &[u32], a: usize, n: usize) -> usize
+    requires { ⌜ a + n ≤ length (now numbers) ⌝ }
+    ensures { λ r. ⌜ r ≡ source (λ k. getD (now (numbers .entry)) (a + k) 0) n 0 ⌝ }
 {
-    let n = numbers.len();
     let mut j = 0;
     let at = loop {
         if j >= n {
             break 0;
         }
-        if numbers[j] > 0 {
+        if numbers[a + j] > 0 {
             break j;
         }
         j += 1;
@@ -223,19 +226,23 @@ fn first_counted(numbers: &[u32]) -> usize
     at
 }
 
-fn write_row(row: &mut [f64], sums: &[f64], numbers: &[u32])
-    requires { ⌜ (length (now sums) ≡ length (now row)) × (length (now numbers) ≡ length (now row)) ⌝ }
-    ensures { λ _. ⌜ now (row .exit) ≡ values (held (λ k. getD (now (sums .entry)) k nan) (λ k. getD (now (numbers .entry)) k 0) (length (now (row .entry)))) (length (now (row .entry))) 0 ⌝ }
+// The cells of the row whose sums and counts stand at a.
+fn write_row(row: &mut [f64], sums: &[f64], numbers: &[u32], a: usize)
+    requires { ⌜ (a + length (now row) ≤ length (now sums)) × (a + length (now row) ≤ length (now numbers)) ⌝ }
+    ensures { λ _. ⌜ now (row .exit) ≡
+        values (held (λ k. getD (now (sums .entry)) (a + k) nan) (λ k. getD (now (numbers .entry)) (a + k) 0) (length (now (row .entry))))
+        (length (now (row .entry))) 0 ⌝ }
 {
     let n = row.len();
     if n == 0 {
         return;
     }
-    let first = first_counted(numbers);
+    let first = a + first_counted(numbers, a, n);
     let mut last = mean(sums[first], numbers[first]);
     let mut j = 0;
     while j < n {
-        last = mean_or_last(last, sums[j], numbers[j]);
+        let at = a + j;
+        last = mean_or_last(last, sums[at], numbers[at]);
         row[j] = last;
         j += 1;
     }
@@ -247,37 +254,46 @@ fn wide(x: u32) -> u64
     x as u64
 }
 
-fn write_counts(row: &mut [u64], numbers: &[u32])
-    requires { ⌜ length (now numbers) ≡ length (now row) ⌝ }
-    ensures { λ _. ⌜ now (row .exit) ≡ values (λ k. getD (now (numbers .entry)) k 0) (length (now (row .entry))) 0 ⌝ }
+// The counts of the row that stands at a.
+fn count_row(row: &mut [u64], numbers: &[u32], a: usize)
+    requires { ⌜ a + length (now row) ≤ length (now numbers) ⌝ }
+    ensures { λ _. ⌜ now (row .exit) ≡ values (λ k. getD (now (numbers .entry)) (a + k) 0) (length (now (row .entry))) 0 ⌝ }
 {
     let n = row.len();
     let mut j = 0;
     while j < n {
-        row[j] = wide(numbers[j]);
+        row[j] = wide(numbers[a + j]);
         j += 1;
     }
 }
 
-// The rows of the grid and of its counts, each lent as a part that starts in the middle.
-fn write_rows(
-    grid: &mut [f64],
-    counts: &mut [u64],
-    sums: &[f64],
-    numbers: &[u32],
-    rows: usize,
-    columns: usize,
-)
-    requires { ⌜ (2048 ≤ length (now grid)) × (2048 ≤ length (now counts)) × (length (now sums) ≡ 2048) × (length (now numbers) ≡ 2048) × (rows ≤ 32) × (columns ≤ 64) ⌝ }
-    ensures { λ _. ⌜ RowsWritten (now (sums .entry)) (now (numbers .entry)) rows columns (now (grid .entry)) (now (counts .entry)) (now (grid .exit)) (now (counts .exit)) ⌝ }
+// The rows of the grid, each lent as a part that starts in its middle.
+fn write_rows(grid: &mut [f64], sums: &[f64], numbers: &[u32], rows: usize, columns: usize)
+    requires { ⌜ (2048 ≤ length (now grid)) × (length (now sums) ≡ 2048) × (length (now numbers) ≡ 2048) × (rows ≤ 32) × (columns ≤ 64) ⌝ }
+    ensures { λ _. ⌜ now (grid .exit) ≡
+        table rows columns (λ i. held (λ k. getD (now (sums .entry)) (cellAt i k) nan) (λ k. getD (now (numbers .entry)) (cellAt i k) 0) columns)
+        (now (grid .entry)) ⌝ }
 {
     let mut i = 0;
     while i < rows {
         let a = 64 * i;
         let e = a + columns;
-        write_row(&mut grid[a..e], &sums[a..e], &numbers[a..e]);
-        write_counts(&mut counts[a..e], &numbers[a..e]);
+        write_row(&mut grid[a..e], sums, numbers, a);
         i += 1;
+    }
+}
+
+// The rows of the counts, the same way.
+fn count_rows(counts: &mut [u64], numbers: &[u32], rows: usize, columns: usize)
+    requires { ⌜ (2048 ≤ length (now counts)) × (length (now numbers) ≡ 2048) × (rows ≤ 32) × (columns ≤ 64) ⌝ }
+    ensures { λ _. ⌜ now (counts .exit) ≡ table rows columns (λ i k. getD (now (numbers .entry)) (cellAt i k) 0) (now (counts .entry)) ⌝ }
+{
+    let mut r = 0;
+    while r < rows {
+        let a = 64 * r;
+        let end = a + columns;
+        count_row(&mut counts[a..end], numbers, a);
+        r += 1;
     }
 }
 
@@ -289,13 +305,15 @@ fn fill_cells(
     expiries: &[f64],
     volatilities: &[f64],
     n: usize,
-    columns: &[f64],
-    rows: &[f64],
+    ks: &[f64],
+    ts: &[f64],
 )
-    requires { ⌜ (2048 ≤ length (now grid)) × (2048 ≤ length (now counts)) × (length (now columns) ≤ 64) × (length (now rows) ≤ 32) ⌝ }
+    requires { ⌜ (2048 ≤ length (now grid)) × (2048 ≤ length (now counts)) × (length (now ks) ≤ 64) × (length (now ts) ≤ 32) ⌝ }
     requires { ⌜ (n ≤ 1024) × (n ≤ length (now strikes)) × (n ≤ length (now expiries)) × (n ≤ length (now volatilities)) ⌝ }
-    requires { ⌜ OnAxes (axesOf (now columns) (now rows)) (quotes n (now strikes) (now expiries) (now volatilities)) ⌝ }
-    ensures { λ _. ⌜ CellsWritten (axesOf (now (columns .entry)) (now (rows .entry))) (quotes n (now (strikes .entry)) (now (expiries .entry)) (now (volatilities .entry))) (now (grid .entry)) (now (counts .entry)) (now (grid .exit)) (now (counts .exit)) ⌝ }
+    requires { ⌜ OnAxes (axesOf (now ks) (now ts)) (quotes (columnsOf (now strikes) (now expiries) (now volatilities)) n) ⌝ }
+    ensures { λ _. ⌜ CellsWritten (axesOf (now (ks .entry)) (now (ts .entry)))
+        (quotes (columnsOf (now (strikes .entry)) (now (expiries .entry)) (now (volatilities .entry))) n)
+        (now (grid .entry)) (now (counts .entry)) (now (grid .exit)) (now (counts .exit)) ⌝ }
 {
     let mut sums = [0.0f64; 2048];
     let mut numbers = [0u32; 2048];
@@ -306,10 +324,11 @@ fn fill_cells(
         expiries,
         volatilities,
         n,
-        columns,
-        rows,
+        ks,
+        ts,
     );
-    write_rows(grid, counts, &sums, &numbers, rows.len(), columns.len());
+    write_rows(grid, &sums, &numbers, ts.len(), ks.len());
+    count_rows(counts, &numbers, ts.len(), ks.len());
 }
 
 // Copies src to the front of dst.
@@ -337,7 +356,7 @@ fn is_quote(strike: f64, expiry: f64, volatility: f64) -> bool
 // 2, of the first n entries of the columns.
 fn are_quotes(strikes: &[f64], expiries: &[f64], volatilities: &[f64], n: usize) -> bool
     requires { ⌜ (n ≤ length (now strikes)) × (n ≤ length (now expiries)) × (n ≤ length (now volatilities)) ⌝ }
-    ensures { λ r. ⌜ r ≡ allInRange (quotes n (now (strikes .entry)) (now (expiries .entry)) (now (volatilities .entry))) ⌝ }
+    ensures { λ r. ⌜ r ≡ allInRange (quotes (columnsOf (now (strikes .entry)) (now (expiries .entry)) (now (volatilities .entry))) n) ⌝ }
 {
     let mut i = 0;
     while i < n {
@@ -349,18 +368,16 @@ fn are_quotes(strikes: &[f64], expiries: &[f64], volatilities: &[f64], n: usize)
     true
 }
 
-// 1, 2 and 15: what can be said before there are axes. The four lengths are those of the buffers.
+// 1, 2 and 15: what can be said before there are axes. `small` is whether 15 holds. An entry is read only where the columns have it, so 1 and the
+// number kept return before.
 fn build_number(
     strikes: &[f64],
     expiries: &[f64],
     volatilities: &[f64],
     kept: u64,
-    columns: usize,
-    rows: usize,
-    grid: usize,
-    counts: usize,
+    small: bool,
 ) -> u64
-    ensures { λ r. ⌜ r ≡ refusal (now (strikes .entry)) (now (expiries .entry)) (now (volatilities .entry)) kept columns rows grid counts 0 0 ⌝ }
+    ensures { λ r. ⌜ r ≡ numberBy (columnsOf (now (strikes .entry)) (now (expiries .entry)) (now (volatilities .entry))) kept small none ⌝ }
 {
     if (strikes.len() < 1024) | (expiries.len() < 1024) | (volatilities.len() < 1024) {
         return 1;
@@ -368,26 +385,84 @@ fn build_number(
     if kept > 1024 {
         return 2;
     }
-    if !are_quotes(strikes, expiries, volatilities, kept as usize) {
-        return 2;
-    }
-    if (columns < 64) | (rows < 32) | (grid < 2048) | (counts < 2048) {
-        return 15;
-    }
-    0
+    let ranged = are_quotes(strikes, expiries, volatilities, kept as usize);
+    limits::first(!ranged, 2, limits::first(small, 15, 0))
 }
 
 // 16 and 17, of the axes' lengths.
 fn axes_number(strikes: usize, expiries: usize) -> u64
-    ensures { λ r. ⌜ r ≡ first (ltb 64 strikes) 16 (first (ltb 32 expiries) 17 none) ⌝ }
+    ensures { λ r. ⌜ r ≡ axesRefusal strikes expiries ⌝ }
 {
-    if strikes > 64 {
-        return 16;
+    limits::first(strikes > 64, 16, limits::first(expiries > 32, 17, 0))
+}
+
+// 15, of the lengths of the four buffers.
+fn is_small(strikes: usize, expiries: usize, grid: usize, counts: usize) -> bool
+    ensures { λ r. ⌜ r ≡ (ltb strikes 64 || ltb expiries 32 || ltb grid 2048 || ltb counts 2048) ⌝ }
+{
+    (strikes < 64) | (expiries < 32) | (grid < 2048) | (counts < 2048)
+}
+
+// What a build is to write: its number, 0 where it is accepted, and the lengths of its axes.
+struct Plan {
+    number: u64,
+    columns: usize,
+    rows: usize,
+}
+
+// Every check of a build, and both axes in the fronts of ks and ts. Axes are made of quotes in range alone, so the checks before them return.
+fn prepare(
+    ks: &mut [f64],
+    ts: &mut [f64],
+    strikes: &[f64],
+    expiries: &[f64],
+    volatilities: &[f64],
+    kept: u64,
+    small: bool,
+) -> Plan
+    requires { ⌜ (length (now ks) ≡ 1024) × (length (now ts) ≡ 1024) ⌝ }
+    ensures { λ r. ⌜ Planned (columnsOf (now (strikes .entry)) (now (expiries .entry)) (now (volatilities .entry))) kept small
+        (r .number) (r .columns) (r .rows) (now (ks .exit)) (now (ts .exit)) ⌝ }
+{
+    let number = build_number(strikes, expiries, volatilities, kept, small);
+    if number != 0 {
+        return Plan {
+            number,
+            columns: 0,
+            rows: 0,
+        };
     }
-    if expiries > 32 {
-        return 17;
+    let columns = make_axis(ks, strikes, kept as usize);
+    let rows = make_axis(ts, expiries, kept as usize);
+    Plan {
+        number: axes_number(columns, rows),
+        columns,
+        rows,
     }
-    0
+}
+
+// Writes a surface that no check turned down.
+fn write(
+    strike_axis: &mut [f64],
+    expiry_axis: &mut [f64],
+    grid: &mut [f64],
+    counts: &mut [u64],
+    strikes: &[f64],
+    expiries: &[f64],
+    volatilities: &[f64],
+    n: usize,
+    ks: &[f64],
+    ts: &[f64],
+)
+    requires { ⌜ Accepted (columnsOf (now strikes) (now expiries) (now volatilities)) n
+        (buffersOf (now «strike_axis») (now «expiry_axis») (now grid) (now counts)) (now ks) (now ts) ⌝ }
+    ensures { λ _. ⌜ buffersOf (now («strike_axis» .exit)) (now («expiry_axis» .exit)) (now (grid .exit)) (now (counts .exit)) ≡
+        surfaceOf (quotes (columnsOf (now (strikes .entry)) (now (expiries .entry)) (now (volatilities .entry))) n)
+        (buffersOf (now («strike_axis» .entry)) (now («expiry_axis» .entry)) (now (grid .entry)) (now (counts .entry))) ⌝ }
+{
+    fill_cells(grid, counts, strikes, expiries, volatilities, n, ks, ts);
+    copy_front(strike_axis, ks);
+    copy_front(expiry_axis, ts);
 }
 
 // Builds the surface of the columns' first `count` quotes.
@@ -401,42 +476,45 @@ pub fn build(
     grid: &mut [f64],
     counts: &mut [u64],
 ) -> Built
-    ensures { λ r. ⌜ Builds (now (strikes .entry)) (now (expiries .entry)) (now (volatilities .entry)) count (now («strike_axis» .entry)) (now («expiry_axis» .entry)) (now (grid .entry)) (now (counts .entry)) r (now («strike_axis» .exit)) (now («expiry_axis» .exit)) (now (grid .exit)) (now (counts .exit)) ⌝ }
+    ensures { λ r. ⌜ Builds (columnsOf (now (strikes .entry)) (now (expiries .entry)) (now (volatilities .entry))) count
+        (buffersOf (now («strike_axis» .entry)) (now («expiry_axis» .entry)) (now (grid .entry)) (now (counts .entry))) r
+        (buffersOf (now («strike_axis» .exit)) (now («expiry_axis» .exit)) (now (grid .exit)) (now (counts .exit))) ⌝ }
 {
-    let number = build_number(
-        strikes,
-        expiries,
-        volatilities,
-        count,
+    let small = is_small(
         strike_axis.len(),
         expiry_axis.len(),
         grid.len(),
         counts.len(),
     );
-    if number != 0 {
-        return Built::Refused { number };
-    }
-    let n = count as usize;
     let mut ks = [0.0f64; 1024];
-    let columns = make_axis(&mut ks, strikes, n);
     let mut ts = [0.0f64; 1024];
-    let rows = make_axis(&mut ts, expiries, n);
-    let number = axes_number(columns, rows);
+    let p = prepare(
+        &mut ks,
+        &mut ts,
+        strikes,
+        expiries,
+        volatilities,
+        count,
+        small,
+    );
+    let number = p.number;
     if number != 0 {
         return Built::Refused { number };
     }
-    fill_cells(
+    let columns = p.columns;
+    let rows = p.rows;
+    write(
+        strike_axis,
+        expiry_axis,
         grid,
         counts,
         strikes,
         expiries,
         volatilities,
-        n,
+        count as usize,
         &ks[..columns],
         &ts[..rows],
     );
-    copy_front(strike_axis, &ks[..columns]);
-    copy_front(expiry_axis, &ts[..rows]);
     Built::Surface {
         strikes: columns,
         expiries: rows,

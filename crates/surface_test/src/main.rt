@@ -1,7 +1,6 @@
 // Replays the vectors of vectors.py: reads calls as words of 16 hexadecimal digits, one a line, makes them, and writes what comes back, a word a line.
 // A call is the number of its words, its kind, and what the functions `run_..` say. Every entry of every lent buffer goes into a digest, in use or not.
 ghost use Prim.Native.Nat.{_+_, _≤_, _<_};
-ghost use mathlib.Core.Path.{_≡_};
 ghost use lib.ListN.{length};
 use chart::Built;
 use grid::Filling;
@@ -213,7 +212,6 @@ fn build_part(
     counts: &mut [u64],
     input: &[u8],
 ) -> Built {
-    let z = 0;
     let a = number(input, 1, strikes.len());
     let b = number(input, 2, expiries.len());
     let c = number(input, 3, volatilities.len());
@@ -223,14 +221,14 @@ fn build_part(
     let f = number(input, 7, grid.len());
     let g = number(input, 8, counts.len());
     surface::build(
-        &strikes[z..a],
-        &expiries[z..b],
-        &volatilities[z..c],
+        &strikes[..a],
+        &expiries[..b],
+        &volatilities[..c],
         n,
-        &mut columns[z..d],
-        &mut rows[z..e],
-        &mut grid[z..f],
-        &mut counts[z..g],
+        &mut columns[..d],
+        &mut rows[..e],
+        &mut grid[..f],
+        &mut counts[..g],
     )
 }
 

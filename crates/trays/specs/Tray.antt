@@ -1,83 +1,96 @@
 -- The batch call: a fresh book hears a whole list from lent slices and is built. Its promise is demand 3's claim about the code itself.
-use Prim.Native.Nat.{ℕ, zero, suc, min, _≤_}
+use Prim.Native.Nat.{ℕ, suc, min}
 use mathlib.Core.Path.{_≡_}
-use mathlib.Core.Bool.{Bool, true, false}
+use mathlib.Core.Bool.{Bool, false}
 use mathlib.Core.List.{List, [], _∷_, map}
 use lib.Dec.{eqb}
-use lib.ListN.{length, getD, set}
+use lib.ListN.{length, take, getD, set}
 use lib.Ieee.{Float, nan}
 use Rattle.floats.specs.Operators.{if_then_else_}
 use Rattle.limits.specs.Checks.{none}
-use Rattle.limits.specs.Outcome.{Outcome}
-use Rattle.brent.specs.Outcome.{Values}
+use Rattle.limits.specs.Outcome.{Outcome, numberOf, valuesOf}
+use Rattle.brent.specs.declared.Solution.{Solution}
 use Rattle.greeks.specs.declared.OptionType.{OptionType}
 use Rattle.greeks.specs.declared.OptionType.the-variants.{Call, Put}
 use Rattle.grid.specs.Layout.{values}
-use Rattle.ledger.specs.Model.{Opening, Model, bsm, Offer, volatility, priced}
-use Rattle.ledger.specs.Book.{Columns, fresh, zeroBook, openRefusal, volatilityOf}
+use Rattle.ledger.specs.Model.{Opening, bsm}
+use Rattle.ledger.specs.Book.{Columns, fresh, zeroBook, openRefusal, isShort}
 use Rattle.chart.specs.Build.{Lengths, outcome}
 use Rattle.ledger.specs.Build.{Buffers, buildOutcome, buffersAfter}
-use Rattle.ledger.specs.Claim.{Ledger, hearAll, replies, numberOf, Demand3}
+use Rattle.ledger.specs.Fold.{after, along}
+use Rattle.ledger.specs.Claim.{Ledger, hear, reply, tallied, Agrees, BuildClaim}
 use Rattle.ledger.specs.declared.Book.{Book}
+use Rattle.ledger.specs.declared.Offer.{Offer}
+use Rattle.ledger.specs.declared.Terms.{Terms}
+use Rattle.ledger.specs.declared.Terms.the-variants.{Volatility, Price}
 use Rattle.trays.specs.declared.Tray.{Tray}
 use Rattle.trays.specs.declared.Tray.the-variants as Tray
 
--- ---- the offers: a price or a volatility, of a put or a call, with a strike, an expiry and a value
-unfoldable pub offerOf : Bool → Bool → Float → Float → Float → Offer
-offerOf isPrice isPut strike expiry value = if isPrice then priced (if isPut then Put else Call) strike expiry value else volatility strike expiry value
+-- ---- the offers: rows of a price or a volatility, of a put or a call, and of strike, expiry and value
+abbrev pub kindOf : Bool → OptionType
+kindOf isPut = if isPut then Put else Call
 
-pub record Slices : Type 0 where
-  pub prices : List Bool
-  pub puts : List Bool
-  pub strikes : List Float
-  pub expiries : List Float
-  pub values : List Float
+abbrev pub termsOf : Bool → Bool → Float → Terms
+termsOf isPrice isPut value = if isPrice then Price (kindOf isPut) value else Volatility value
 
-abbrev pub slices : List Bool → List Bool → List Float → List Float → List Float → Slices
-slices prices puts strikes expiries vs = record { prices = prices; puts = puts; strikes = strikes; expiries = expiries; values = vs }
-
-abbrev pub offerAt : Slices → ℕ → Offer
-offerAt s i = offerOf (getD (s .prices) i false) (getD (s .puts) i false) (getD (s .strikes) i nan) (getD (s .expiries) i nan) (getD (s .values) i nan)
+unfoldable pub offerOf : List Bool → List Float → Offer
+offerOf kind row =
+    record { strike = getD row 0 nan; expiry = getD row 1 nan; terms = termsOf (getD kind 0 false) (getD kind 1 false) (getD row 2 nan) }
 
 -- The first n offers of the slices.
-abbrev pub offers : Slices → ℕ → List Offer
-offers s n = values (offerAt s) n 0
+abbrev pub offerAt : List (List Bool) → List (List Float) → ℕ → Offer
+offerAt kinds figures i = offerOf (getD kinds i []) (getD figures i [])
+
+abbrev pub offers : List (List Bool) → List (List Float) → ℕ → List Offer
+offers kinds figures n = values (offerAt kinds figures) n 0
 
 -- ---- the answers: one entry after the other from place i on, the rest of the list as it was
 unfoldable pub written : {X : Type 0} → ℕ → List X → List X → List X
 written i [] was = was
 written i (x ∷ xs) was = written (suc i) xs (set was i x)
 
--- One answer: its number (0 for accepted) and its volatility.
-pub record WritesAnswer (at : ℕ) (o : Outcome Values) (numbers : List ℕ) (solved : List Float) (numbers' : List ℕ) (solved' : List Float) : Type 0 where
-  pub numbered : numbers' ≡ set numbers at (numberOf o)
-  pub answered : solved' ≡ set solved at (volatilityOf o)
+-- One answer: its number (0 for accepted) and evaluations; its volatility, error, point c and the error there.
+unfoldable pub numbersOf : Outcome Solution → List ℕ
+numbersOf o = numberOf o ∷ valuesOf o .evaluations ∷ []
+
+abbrev pub figuresOf : Solution → List Float
+figuresOf x = x .volatility ∷ x .error ∷ x .c ∷ x .«c_error» ∷ []
+
+unfoldable pub evidenceOf : Outcome Solution → List Float
+evidenceOf o = figuresOf (valuesOf o)
+
+pub record Answers : Type 0 where
+  pub numbers : List (List ℕ)
+  pub evidence : List (List Float)
+
+abbrev pub answers : List (List ℕ) → List (List Float) → Answers
+answers numbers evidence = record { numbers = numbers; evidence = evidence }
+
+-- The answers to a list of offers, from place i on.
+abbrev pub handedOut : ℕ → List (Outcome Solution) → Answers → Answers
+handedOut i rs a = answers (written i (map numbersOf rs) (a .numbers)) (written i (map evidenceOf rs) (a .evidence))
 
 -- What hearing a list leaves: the ledger, and an answer for each offer.
-pub record HearsAll (l : Ledger) (os : List Offer) (numbers : List ℕ) (solved : List Float) (b' : Book) (c' : Columns) (numbers' : List ℕ) (solved' : List Float) : Type 0 where
-  pub book : b' ≡ hearAll bsm l os .book
-  pub columns : c' ≡ hearAll bsm l os .columns
-  pub numbered : numbers' ≡ written 0 (map numberOf (replies bsm l os)) numbers
-  pub answered : solved' ≡ written 0 (map volatilityOf (replies bsm l os)) solved
+pub record HearsAll (l : Ledger) (os : List Offer) (a : Answers) (b' : Book) (c' : Columns) (a' : Answers) : Type 0 where
+  pub ledger : record { book = b'; columns = c' } ≡ after (hear bsm) l os
+  pub answers : a' ≡ handedOut 0 (along (hear bsm) (reply bsm) l os) a
 
 -- ---- the whole call
 -- "The list is as long as the shortest slice", those of the answers included.
-abbrev pub shortest : ℕ → ℕ → ℕ → ℕ → ℕ → ℕ → ℕ → ℕ
-shortest a b c d e f g = min a (min b (min c (min d (min e (min f g)))))
+abbrev pub shortest : ℕ → ℕ → ℕ → ℕ → ℕ
+shortest a b c d = min a (min b (min c d))
 
 -- All that is lent to be written: an answer for each offer, the columns, the surface.
 pub record Lent : Type 0 where
-  pub numbers : List ℕ
-  pub solved : List Float
+  pub answers : Answers
   pub columns : Columns
   pub buffers : Buffers
 
-abbrev pub lent : List ℕ → List Float → Columns → Buffers → Lent
-lent numbers solved columns buffers = record { numbers = numbers; solved = solved; columns = columns; buffers = buffers }
+abbrev pub lent : Answers → Columns → Buffers → Lent
+lent answers columns buffers = record { answers = answers; columns = columns; buffers = buffers }
 
-abbrev pub heardOffers : Slices → Lent → List Offer
-heardOffers s l =
-    offers s (shortest (length (s .prices)) (length (s .puts)) (length (s .strikes)) (length (s .expiries)) (length (s .values)) (length (l .numbers)) (length (l .solved)))
+abbrev pub heardOffers : List (List Bool) → List (List Float) → Answers → List Offer
+heardOffers kinds figures a = offers kinds figures (shortest (length kinds) (length figures) (length (a .numbers)) (length (a .evidence)))
 
 -- The opening is refused, or the list was heard: the record, and what its build answers.
 pub data TrayReply : Type 0 where
@@ -93,7 +106,7 @@ module _ (opening : Opening) (os : List Offer) (l : Lent) where
   firstLedger = record { book = fresh opening; columns = l .columns }
 
   abbrev pub lastLedger : Ledger
-  lastLedger = hearAll bsm firstLedger os
+  lastLedger = after (hear bsm) firstLedger os
 
   -- "A refused opening returns a record of zeros."
   unfoldable pub trayReply : TrayReply
@@ -105,15 +118,25 @@ module _ (opening : Opening) (os : List Offer) (l : Lent) where
   lentAfter =
       if eqb (openRefusal opening) none
       then record {
-        numbers = written 0 (map numberOf (replies bsm firstLedger os)) (l .numbers);
-        solved = written 0 (map volatilityOf (replies bsm firstLedger os)) (l .solved);
+        answers = handedOut 0 (along (hear bsm) (reply bsm) firstLedger os) (l .answers);
         columns = lastLedger .columns;
         buffers = buffersAfter (lastLedger .book) (lastLedger .columns) (l .buffers);
       }
       else l
 
-  -- Answer and every lent entry; and of what they are, demand 3.
+  -- Demand 3, of the record returned, of the columns, surface and answers left in lent memory: `replies` is what each offer was answered.
+  pub record TrayClaim (b : Book) (built : Outcome Lengths) (l' : Lent) : Type 0 where
+    pub replies : List (Outcome Solution)
+    pub handed-out : l' .answers ≡ handedOut 0 replies (l .answers)
+    pub list : Agrees bsm opening (l .columns) os replies (record { book = b; columns = l' .columns }) (λ n. after (hear bsm) firstLedger (take n os) .book)
+    pub build : BuildClaim (tallied bsm opening (l .columns) os .quotes) (l .buffers) (isShort (l .columns)) built (l' .buffers)
+
+  abbrev pub Claimed : TrayReply → Lent → Type 0
+  Claimed (shut number book) l' = ⊥
+  Claimed (heard book built) l' = TrayClaim book built l'
+
+  -- Answer and every lent entry; and where the opening is accepted, demand 3 of them.
   pub record QuotesTray (r : Tray) (l' : Lent) : Type 0 where
     pub answers : replyOf r ≡ trayReply
     pub lent : l' ≡ lentAfter
-    pub claim : openRefusal opening ≡ none → Demand3 bsm opening (l .columns) os (l .buffers)
+    pub claim : openRefusal opening ≡ none → Claimed (replyOf r) l'

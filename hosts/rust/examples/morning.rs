@@ -3,7 +3,7 @@
 use kitesettee::{
     bsm_greeks, bsm_price, fill_gaps, implied_volatility, normal, quote_tray, Offer, OptionParams,
     OptionType::{Call, Put},
-    Quote, Refusal, Surface,
+    Quote, Refusal, Solved, Surface, Unsolved,
 };
 use std::error::Error;
 
@@ -25,6 +25,22 @@ fn answer(x: Result<f64, Refusal>) -> String {
     match x {
         Ok(x) => result(x),
         Err(refusal) => refusal.to_string(),
+    }
+}
+
+/// A volatility, with its evidence where a solver found it; or the refusal.
+fn solved(x: Result<Solved, Unsolved>) -> String {
+    match x {
+        Ok(s) if s.evaluations == 0 => result(s.volatility),
+        Ok(s) => format!(
+            "{}, error {}, c {}, its error {}, {} evaluations",
+            result(s.volatility),
+            result(s.error),
+            result(s.c),
+            result(s.c_error),
+            s.evaluations
+        ),
+        Err(unsolved) => format!("{} evaluations, {}", unsolved.evaluations, unsolved.refusal),
     }
 }
 
@@ -54,7 +70,7 @@ fn tray() -> Result<(), Refusal> {
     ];
     let tray = quote_tray(100.0, 0.03, &offers)?;
     for (i, (offer, said)) in offers.iter().zip(&tray.answers).enumerate() {
-        println!("offer {}: {}: {}", i + 1, describe(offer), answer(*said));
+        println!("offer {}: {}: {}", i + 1, describe(offer), solved(*said));
     }
     let t = tray.totals;
     println!("kept {}, refused {}, heard {}, evaluations {}", t.kept, t.refused, t.heard, t.evaluations);
@@ -97,18 +113,8 @@ fn option() -> Result<(), Refusal> {
     for (name, value) in named {
         println!("{name}: {}", result(value));
     }
-    let s = implied_volatility(price, &put)?;
-    println!(
-        "its volatility: {}, error {}, c {}, its error {}, {} evaluations",
-        result(s.volatility),
-        result(s.error),
-        result(s.c),
-        result(s.c_error),
-        s.evaluations
-    );
-    if let Err(unsolved) = implied_volatility(150.0, &OptionParams { option_type: Call, ..put }) {
-        println!("a price of 150: {} evaluations, {}", unsolved.evaluations, unsolved.refusal);
-    }
+    println!("its volatility: {}", solved(implied_volatility(price, &put)));
+    println!("a price of 150: {}", solved(implied_volatility(150.0, &OptionParams { option_type: Call, ..put })));
     Ok(())
 }
 

@@ -1,4 +1,5 @@
-// The exported functions of crates/host, as ../../c/kitesettee.h declares them. A slice is its pointer and its length.
+// The exported functions of crates/host, as ../../c/kitesettee.h declares them. A slice is its pointer and its length. tests/test_documents.py holds
+// both lists to crates/host.
 extern "C" {
     pub fn kite_sqrt(x: f64) -> f64;
     pub fn kite_exp(x: f64) -> f64;
@@ -25,20 +26,14 @@ extern "C" {
     pub fn kite_quote_tray(
         spot: f64,
         rate: f64,
-        prices: *const bool,
-        prices_len: usize,
-        puts: *const bool,
-        puts_len: usize,
-        ks: *const f64,
-        ks_len: usize,
-        ts: *const f64,
-        ts_len: usize,
-        vs: *const f64,
-        vs_len: usize,
-        numbers: *mut u64,
+        kinds: *const [bool; 2],
+        kinds_len: usize,
+        figures: *const [f64; 3],
+        figures_len: usize,
+        numbers: *mut [u64; 2],
         numbers_len: usize,
-        solved: *mut f64,
-        solved_len: usize,
+        evidence: *mut [f64; 4],
+        evidence_len: usize,
         strikes: *mut f64,
         strikes_len: usize,
         expiries: *mut f64,
@@ -53,7 +48,7 @@ extern "C" {
         grid_len: usize,
         counts: *mut u64,
         counts_len: usize,
-        record: &mut [u64; 4],
+        totals: &mut [u64; 4],
         lengths: &mut [u64; 2],
     ) -> u64;
 

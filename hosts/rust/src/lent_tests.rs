@@ -4,14 +4,14 @@ use crate::ffi;
 /// All that a tray is lent, filled with a mark that no call writes.
 #[derive(Clone, PartialEq, Debug)]
 struct Memory {
-    numbers: Vec<u64>,
-    solved: Vec<f64>,
+    numbers: Vec<[u64; 2]>,
+    evidence: Vec<[f64; 4]>,
     columns: [Vec<f64>; 3],
     strike_axis: Vec<f64>,
     expiry_axis: Vec<f64>,
     grid: Vec<f64>,
     counts: Vec<u64>,
-    record: [u64; 4],
+    totals: [u64; 4],
     lengths: [u64; 2],
 }
 
@@ -20,45 +20,53 @@ const COUNT_MARK: u64 = 77;
 
 fn memory() -> Memory {
     Memory {
-        numbers: vec![COUNT_MARK; 8],
-        solved: vec![MARK; 8],
+        numbers: vec![[COUNT_MARK; 2]; 8],
+        evidence: vec![[MARK; 4]; 8],
         columns: [vec![MARK; 1024], vec![MARK; 1024], vec![MARK; 1024]],
         strike_axis: vec![MARK; 64],
         expiry_axis: vec![MARK; 32],
         grid: vec![MARK; 2048],
         counts: vec![COUNT_MARK; 2048],
-        record: [COUNT_MARK; 4],
+        totals: [COUNT_MARK; 4],
         lengths: [COUNT_MARK; 2],
     }
 }
 
-/// Volatilities 0.25 at strikes 100, a blank, 110, 120 and 130, of which `puts` is as long as is given.
-fn hear(spot: f64, puts: usize, m: &mut Memory) -> u64 {
-    let prices = [false; 5];
-    let puts = vec![false; puts];
-    let ks = [100.0, f64::NAN, 110.0, 120.0, 130.0];
-    let ts = [0.5; 5];
-    let vs = [0.25; 5];
+/// What a volatility of 0.25 is answered, and a blank strike.
+const KEPT: ([u64; 2], [f64; 4]) = ([0, 0], [0.25, 0.0, 0.0, 0.0]);
+const BLANK: ([u64; 2], [f64; 4]) = ([7, 0], [0.0; 4]);
+
+/// The answers left: these first, and no other row touched.
+fn answers(rows: &[([u64; 2], [f64; 4])], of: &Memory) -> (Vec<[u64; 2]>, Vec<[f64; 4]>) {
+    let (mut numbers, mut evidence) = (vec![[COUNT_MARK; 2]; of.numbers.len()], vec![[MARK; 4]; of.evidence.len()]);
+    for (i, row) in rows.iter().enumerate() {
+        (numbers[i], evidence[i]) = *row;
+    }
+    (numbers, evidence)
+}
+
+/// Volatilities 0.25 at strikes 100, a blank, 110, 120 and 130, as many as there are rows of both.
+fn hear(spot: f64, kinds: usize, figures: usize, m: &mut Memory) -> u64 {
+    let kinds = vec![[false; 2]; kinds];
+    let figures = &[100.0, f64::NAN, 110.0, 120.0, 130.0].map(|strike| [strike, 0.5, 0.25])[..figures];
+    tray(spot, &kinds, figures, m)
+}
+
+fn tray(spot: f64, kinds: &[[bool; 2]], figures: &[[f64; 3]], m: &mut Memory) -> u64 {
     let [strikes, expiries, volatilities] = &mut m.columns;
-    // SAFETY: pointers and lengths of vectors and arrays that are each their own.
+    // SAFETY: pointers and lengths of slices, vectors and arrays that are each their own.
     unsafe {
         ffi::kite_quote_tray(
             spot,
             0.03,
-            prices.as_ptr(),
-            prices.len(),
-            puts.as_ptr(),
-            puts.len(),
-            ks.as_ptr(),
-            ks.len(),
-            ts.as_ptr(),
-            ts.len(),
-            vs.as_ptr(),
-            vs.len(),
+            kinds.as_ptr(),
+            kinds.len(),
+            figures.as_ptr(),
+            figures.len(),
             m.numbers.as_mut_ptr(),
             m.numbers.len(),
-            m.solved.as_mut_ptr(),
-            m.solved.len(),
+            m.evidence.as_mut_ptr(),
+            m.evidence.len(),
             strikes.as_mut_ptr(),
             strikes.len(),
             expiries.as_mut_ptr(),
@@ -73,7 +81,7 @@ fn hear(spot: f64, puts: usize, m: &mut Memory) -> u64 {
             m.grid.len(),
             m.counts.as_mut_ptr(),
             m.counts.len(),
-            &mut m.record,
+            &mut m.totals,
             &mut m.lengths,
         )
     }
@@ -82,19 +90,18 @@ fn hear(spot: f64, puts: usize, m: &mut Memory) -> u64 {
 #[test]
 fn a_refused_opening_touches_nothing() {
     let mut m = memory();
-    assert_eq!(hear(f64::NAN, 5, &mut m), 6);
-    let untouched = Memory { record: [0; 4], lengths: [0; 2], ..memory() };
+    assert_eq!(hear(f64::NAN, 5, 5, &mut m), 6);
+    let untouched = Memory { totals: [0; 4], lengths: [0; 2], ..memory() };
     assert_eq!(m, untouched);
 }
 
 #[test]
 fn only_what_is_in_use_is_written() {
     let mut m = memory();
-    // The shortest slice, puts, has 4 offers.
-    assert_eq!(hear(100.0, 4, &mut m), 0);
+    // The shortest slice, kinds, has 4 offers.
+    assert_eq!(hear(100.0, 4, 5, &mut m), 0);
     let mut expected = memory();
-    expected.numbers[..4].copy_from_slice(&[0, 7, 0, 0]);
-    expected.solved[..4].copy_from_slice(&[0.25, 0.0, 0.25, 0.25]);
+    (expected.numbers, expected.evidence) = answers(&[KEPT, BLANK, KEPT, KEPT], &m);
     expected.columns[0][..3].copy_from_slice(&[100.0, 110.0, 120.0]);
     expected.columns[1][..3].fill(0.5);
     expected.columns[2][..3].fill(0.25);
@@ -102,22 +109,51 @@ fn only_what_is_in_use_is_written() {
     expected.expiry_axis[0] = 0.5;
     expected.grid[..3].fill(0.25);
     expected.counts[..3].fill(1);
-    expected.record = [3, 1, 4, 0];
+    expected.totals = [3, 1, 4, 0];
     expected.lengths = [3, 1];
     assert_eq!(m, expected);
 }
 
 #[test]
-fn a_short_answer_slice_ends_the_list() {
+fn the_shortest_slice_ends_the_list() {
+    // Rows of kinds, figures, numbers and evidence.
+    for slice in 0..4 {
+        for (rows, totals) in [(0, [0; 4]), (1, [1, 0, 1, 0]), (2, [1, 1, 2, 0])] {
+            let mut lengths = [5, 5, 8, 8];
+            lengths[slice] = rows;
+            let mut m = memory();
+            m.numbers.truncate(lengths[2]);
+            m.evidence.truncate(lengths[3]);
+            let expected = answers(&[KEPT, BLANK][..rows], &m);
+            assert_eq!(hear(100.0, lengths[0], lengths[1], &mut m), 0);
+            let kept = totals[0];
+            assert_eq!((m.totals, m.lengths), (totals, [kept, kept]), "{lengths:?}");
+            assert_eq!((m.numbers, m.evidence), expected, "{lengths:?}");
+        }
+    }
+}
+
+/// A call, a put, and a call that no volatility gives, of the same figures otherwise; a volatility whose row says put.
+#[test]
+fn a_price_is_answered_as_the_solver_answers_it() {
+    let kinds = [[true, false], [true, true], [true, false], [false, true]];
+    let figures = [[105.0, 0.5, 8.6], [105.0, 0.5, 8.6], [105.0, 0.5, 150.0], [105.0, 0.5, 0.25]];
     let mut m = memory();
-    m.numbers.truncate(1);
-    assert_eq!(hear(100.0, 5, &mut m), 0);
-    assert_eq!((m.record, m.lengths), ([1, 0, 1, 0], [1, 1]));
-    assert_eq!(m.solved[..2], [0.25, MARK]);
-    m = memory();
-    assert_eq!(hear(100.0, 0, &mut m), 0);
-    assert_eq!((m.record, m.lengths), ([0; 4], [0; 2]));
-    assert_eq!(m.numbers, memory().numbers);
+    assert_eq!(tray(100.0, &kinds, &figures, &mut m), 0);
+    let mut expected = Vec::new();
+    for ([_, put], [strike, expiry, market]) in kinds.into_iter().zip(figures).take(3) {
+        let (mut values, mut evaluations) = ([MARK; 4], COUNT_MARK);
+        // SAFETY: numbers, and two results of this function's own.
+        let number = unsafe { ffi::kite_implied_volatility(put, market, 100.0, strike, expiry, 0.03, &mut values, &mut evaluations) };
+        expected.push(([number, evaluations], values));
+    }
+    assert_ne!(expected[0], expected[1]);
+    assert_eq!(expected[2], ([12, 2], [0.0; 4]));
+    let evaluations = expected.iter().map(|(numbers, _)| numbers[1]).sum();
+    expected.push(KEPT);
+    assert_eq!((m.numbers.clone(), m.evidence.clone()), answers(&expected, &m));
+    assert_eq!(m.totals, [3, 1, 4, evaluations]);
+    assert_eq!(m.columns[2][..3], [expected[0].1[0], expected[1].1[0], 0.25]);
 }
 
 #[test]
@@ -126,10 +162,9 @@ fn a_short_column() {
         let mut m = memory();
         m.columns[column].truncate(1023);
         let columns = m.columns.clone();
-        assert_eq!(hear(100.0, 5, &mut m), 1);
-        assert_eq!(m.numbers[..6], [1, 1, 1, 1, 1, COUNT_MARK]);
-        assert_eq!(m.solved[..6], [0.0, 0.0, 0.0, 0.0, 0.0, MARK]);
-        assert_eq!((m.record, m.lengths), ([0; 4], [0; 2]));
+        assert_eq!(hear(100.0, 5, 5, &mut m), 1);
+        assert_eq!((m.numbers.clone(), m.evidence.clone()), answers(&[([1, 0], [0.0; 4]); 5], &m));
+        assert_eq!((m.totals, m.lengths), ([0; 4], [0; 2]));
         assert_eq!((m.columns, m.grid), (columns, memory().grid));
     }
 }
@@ -142,9 +177,10 @@ fn a_short_buffer() {
         let mut m = memory();
         short(&mut m);
         let before = m.clone();
-        assert_eq!(hear(100.0, 5, &mut m), 15);
+        assert_eq!(hear(100.0, 5, 5, &mut m), 15);
         // The offers were heard; no buffer of the surface was touched.
-        assert_eq!((m.record, m.lengths), ([4, 1, 5, 0], [0; 2]));
+        assert_eq!((m.totals, m.lengths), ([4, 1, 5, 0], [0; 2]));
+        assert_eq!((m.numbers.clone(), m.evidence.clone()), answers(&[KEPT, BLANK, KEPT, KEPT, KEPT], &m));
         assert_eq!(m.columns[0][..5], [100.0, 110.0, 120.0, 130.0, MARK]);
         assert_eq!((m.strike_axis, m.expiry_axis, m.grid, m.counts), (before.strike_axis, before.expiry_axis, before.grid, before.counts));
     }

@@ -61,13 +61,13 @@ pub struct Greeks {
 pub struct Solved {
     /// The volatility.
     pub volatility: f64,
-    /// Its price minus the market's.
+    /// Its price minus the market's; 0.0 where a tray was offered the volatility itself.
     pub error: f64,
-    /// The opposing point.
+    /// The opposing point; 0.0 where a tray was offered the volatility itself.
     pub c: f64,
-    /// The price at `c` minus the market's.
+    /// The price at `c` minus the market's; 0.0 likewise.
     pub c_error: f64,
-    /// How many prices were computed, 2 to 51.
+    /// How many prices were computed, 2 to 51; 0 where a tray was offered the volatility itself.
     pub evaluations: u64,
 }
 
@@ -200,7 +200,11 @@ pub fn implied_volatility(market_price: f64, params: &OptionParams) -> Result<So
             &mut evaluations,
         )
     };
-    let [volatility, error, c, c_error] = values;
+    answered(number, values, evaluations)
+}
+
+/// What a call wrote for a volatility: its number, the four figures of its evidence, its evaluations.
+pub(crate) fn answered(number: u64, [volatility, error, c, c_error]: [f64; 4], evaluations: u64) -> Result<Solved, Unsolved> {
     match check(number) {
         Ok(()) => Ok(Solved { volatility, error, c, c_error, evaluations }),
         Err(refusal) => Err(Unsolved { refusal, evaluations }),

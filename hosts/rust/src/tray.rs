@@ -1,6 +1,6 @@
 use crate::{
     ffi,
-    option::OptionType,
+    option::{answered, OptionType, Solved, Unsolved},
     refusal::{check, Refusal},
     surface::{Quote, Surface, QUOTES},
 };
@@ -31,29 +31,19 @@ pub enum Offer {
 }
 
 impl Offer {
-    fn is_price(&self) -> bool {
-        matches!(self, Offer::Price { .. })
-    }
-
-    fn is_put(&self) -> bool {
-        matches!(self, Offer::Price { option_type: OptionType::Put, .. })
-    }
-
-    fn strike(&self) -> f64 {
+    /// Its row of kinds: whether it is a price, and of a put.
+    fn kind(&self) -> [bool; 2] {
         match *self {
-            Offer::Price { strike, .. } | Offer::Volatility { strike, .. } => strike,
+            Offer::Price { option_type, .. } => [true, option_type.is_put()],
+            Offer::Volatility { .. } => [false, false],
         }
     }
 
-    fn expiry(&self) -> f64 {
+    /// Its row of figures: strike, expiry, value.
+    fn figures(&self) -> [f64; 3] {
         match *self {
-            Offer::Price { expiry, .. } | Offer::Volatility { expiry, .. } => expiry,
-        }
-    }
-
-    fn value(&self) -> f64 {
-        match *self {
-            Offer::Price { price: value, .. } | Offer::Volatility { volatility: value, .. } => value,
+            Offer::Price { strike, expiry, price, .. } => [strike, expiry, price],
+            Offer::Volatility { strike, expiry, volatility } => [strike, expiry, volatility],
         }
     }
 }
@@ -74,8 +64,10 @@ pub struct Totals {
 /// A tray that was heard.
 #[derive(Debug, Clone, PartialEq)]
 pub struct Tray {
-    /// Of each offer, in order: the volatility that was accepted, or why it was not.
-    pub answers: Vec<Result<f64, Refusal>>,
+    /// Of each offer, in order: its volatility with the evidence, or why it was refused and after how many evaluations. A price that 3 and 4 let
+    /// through is answered as [`implied_volatility`](crate::implied_volatility) answers it; an accepted volatility is its own answer, with an
+    /// error, a `c` and a `c_error` of 0.0 and 0 evaluations. [`volatilities`](Tray::volatilities) leaves the evidence out.
+    pub answers: Vec<Result<Solved, Unsolved>>,
     /// The quotes kept, in order.
     pub quotes: Vec<Quote>,
     /// The counts.
@@ -84,17 +76,43 @@ pub struct Tray {
     pub surface: Result<Surface, Refusal>,
 }
 
+impl Tray {
+    /// Of each offer, in order: the volatility that was accepted, or why it was not.
+    ///
+    /// ```
+    /// use kitesettee::{quote_tray, Offer, Refusal};
+    ///
+    /// let offer = |strike| Offer::Volatility { strike, expiry: 0.5, volatility: 0.25 };
+    /// let tray = quote_tray(100.0, 0.03, &[offer(95.0), offer(f64::NAN)])?;
+    /// assert!(tray.volatilities().eq([Ok(0.25), Err(Refusal::Strike)]));
+    /// # Ok::<(), Refusal>(())
+    /// ```
+    pub fn volatilities(&self) -> impl ExactSizeIterator<Item = Result<f64, Refusal>> + '_ {
+        self.answers.iter().map(|answer| match answer {
+            Ok(solved) => Ok(solved.volatility),
+            Err(unsolved) => Err(unsolved.refusal),
+        })
+    }
+}
+
 /// Hears a whole tray: opens a fresh book on a spot and a rate, offers it the list in order, and builds the surface of what it kept.
 ///
 /// An offer that is refused changes nothing but the counts. Refuses the opening by 6 (spot) and 9 (rate): nothing is heard then.
 ///
 /// ```
-/// use kitesettee::{quote_tray, Offer, OptionType, Refusal};
+/// use kitesettee::{quote_tray, Offer, OptionType, Refusal, Unsolved};
 ///
 /// let call = |strike, price| Offer::Price { option_type: OptionType::Call, strike, expiry: 0.5, price };
-/// let tray = quote_tray(100.0, 0.03, &[call(95.0, 9.5), call(f64::NAN, 9.5), call(105.0, 4.1)])?;
-/// assert_eq!(tray.answers[1], Err(Refusal::Strike));
+/// let tray = quote_tray(100.0, 0.03, &[call(95.0, 9.5), call(f64::NAN, 9.5), call(105.0, 4.1), call(100.0, 150.0)])?;
 /// assert_eq!(tray.totals.kept, 2);
+///
+/// // Each answer with its evidence: how far the price at the volatility is from the market's, and what that took.
+/// let first = tray.answers[0]?;
+/// assert!(first.error.abs() < 0.000001 && first.evaluations <= 51);
+/// assert_eq!(tray.answers[1], Err(Unsolved { refusal: Refusal::Strike, evaluations: 0 }));
+/// assert_eq!(tray.answers[3], Err(Unsolved { refusal: Refusal::NotBracketed, evaluations: 2 }));
+///
+/// assert_eq!(tray.quotes[0].volatility, first.volatility);
 /// assert_eq!(tray.surface?.strikes(), [95.0, 105.0]);
 ///
 /// // A missing rate opens no book.
@@ -102,18 +120,15 @@ pub struct Tray {
 /// # Ok::<(), Refusal>(())
 /// ```
 pub fn quote_tray(spot: f64, rate: f64, offers: &[Offer]) -> Result<Tray, Refusal> {
-    let prices: Vec<bool> = offers.iter().map(Offer::is_price).collect();
-    let puts: Vec<bool> = offers.iter().map(Offer::is_put).collect();
-    let ks: Vec<f64> = offers.iter().map(Offer::strike).collect();
-    let ts: Vec<f64> = offers.iter().map(Offer::expiry).collect();
-    let vs: Vec<f64> = offers.iter().map(Offer::value).collect();
-    let mut numbers = vec![0; offers.len()];
-    let mut solved = vec![0.0; offers.len()];
+    let kinds: Vec<[bool; 2]> = offers.iter().map(Offer::kind).collect();
+    let figures: Vec<[f64; 3]> = offers.iter().map(Offer::figures).collect();
+    let mut numbers = vec![[0; 2]; offers.len()];
+    let mut evidence = vec![[0.0; 4]; offers.len()];
     let mut strikes = vec![0.0; QUOTES];
     let mut expiries = vec![0.0; QUOTES];
     let mut volatilities = vec![0.0; QUOTES];
     let mut surface = Surface::empty();
-    let mut record = [0; 4];
+    let mut totals = [0; 4];
     let mut lengths = [0; 2];
     let to = surface.lend();
     // SAFETY: each pointer is that of a vector of its own, with its length; none is shared, and all live past the call. The bools are Rust's.
@@ -121,20 +136,14 @@ pub fn quote_tray(spot: f64, rate: f64, offers: &[Offer]) -> Result<Tray, Refusa
         ffi::kite_quote_tray(
             spot,
             rate,
-            prices.as_ptr(),
-            prices.len(),
-            puts.as_ptr(),
-            puts.len(),
-            ks.as_ptr(),
-            ks.len(),
-            ts.as_ptr(),
-            ts.len(),
-            vs.as_ptr(),
-            vs.len(),
+            kinds.as_ptr(),
+            kinds.len(),
+            figures.as_ptr(),
+            figures.len(),
             numbers.as_mut_ptr(),
             numbers.len(),
-            solved.as_mut_ptr(),
-            solved.len(),
+            evidence.as_mut_ptr(),
+            evidence.len(),
             strikes.as_mut_ptr(),
             strikes.len(),
             expiries.as_mut_ptr(),
@@ -149,7 +158,7 @@ pub fn quote_tray(spot: f64, rate: f64, offers: &[Offer]) -> Result<Tray, Refusa
             to.grid.1,
             to.counts.0,
             to.counts.1,
-            &mut record,
+            &mut totals,
             &mut lengths,
         )
     };
@@ -157,10 +166,10 @@ pub fn quote_tray(spot: f64, rate: f64, offers: &[Offer]) -> Result<Tray, Refusa
     if let Err(refusal @ (Refusal::Spot | Refusal::Rate)) = built {
         return Err(refusal);
     }
-    let [kept, refused, heard, evaluations] = record;
+    let [kept, refused, heard, evaluations] = totals;
     let quotes = (0..kept as usize).map(|i| Quote { strike: strikes[i], expiry: expiries[i], volatility: volatilities[i] }).collect();
     Ok(Tray {
-        answers: numbers.iter().zip(&solved).map(|(&n, &v)| check(n).map(|()| v)).collect(),
+        answers: numbers.iter().zip(&evidence).map(|(&[number, evaluations], &values)| answered(number, values, evaluations)).collect(),
         quotes,
         totals: Totals { kept, refused, heard, evaluations },
         surface: built.map(|()| surface.sized(lengths)),

@@ -1,8 +1,8 @@
 //! Answers by their bits. The expectations of functions, options, solver and surface are those of the Rust that document 01 names, with
 //! document 01's exp, ln, root and erfc (oracle/ in the repository); the others are document 01's own examples.
 use kitesettee::{
-    bsm_greeks, bsm_price, fill_gaps, implied_volatility, normal, quote_tray, Offer, OptionParams, OptionType, Quote, Refusal, Surface,
-    Unsolved,
+    bsm_greeks, bsm_price, fill_gaps, implied_volatility, normal, quote_tray, Offer, OptionParams, OptionType, Quote, Refusal, Solved,
+    Surface, Unsolved,
 };
 
 const CALL: OptionType = OptionType::Call;
@@ -245,16 +245,43 @@ fn a_tray() {
     let solved = [0x3FCAE64AA92860EE, 0x3FC859C37607AF9C, 0x3FCE1D980C732040, 0x3FCEB851EB851EB8, 0x3FD0A3D70A3D70A4, 0x3FCD0A3C63760DD6];
     let [a, b, c, d, e, f] = solved.map(|bits| Ok(f64::from_bits(bits)));
     let refused = |refusal| Err(refusal);
-    assert_eq!(
-        tray.answers,
-        [a, b, c, refused(Refusal::Strike), d, refused(Refusal::Price), e, refused(Refusal::Volatility), f, refused(Refusal::NotBracketed)]
-    );
+    assert!(tray.volatilities().eq([
+        a,
+        b,
+        c,
+        refused(Refusal::Strike),
+        d,
+        refused(Refusal::Price),
+        e,
+        refused(Refusal::Volatility),
+        f,
+        refused(Refusal::NotBracketed)
+    ]));
     assert_eq!((tray.totals.kept, tray.totals.refused, tray.totals.heard), (6, 4, 10));
-    // The solvers' evaluations, and 2 of the one that found no bracket.
-    let of =
-        |kind, market, strike, expiry| implied_volatility(market, &option(kind, 100.0, strike, expiry, 0.03, 0.0)).unwrap().evaluations;
-    let evaluations = of(CALL, 9.5, 95.0, 0.5) + of(CALL, 6.1, 100.0, 0.5) + of(PUT, 8.6, 105.0, 0.5) + of(CALL, 8.2, 105.0, 1.0) + 2;
-    assert_eq!(tray.totals.evaluations, evaluations);
+    // Each answer with its evidence: a price's is the solver's own, a volatility brings none.
+    let of = |kind, market, strike, expiry| implied_volatility(market, &option(kind, 100.0, strike, expiry, 0.03, 0.0));
+    let offered = |volatility| Ok(Solved { volatility, error: 0.0, c: 0.0, c_error: 0.0, evaluations: 0 });
+    let unheard = |refusal| Err(Unsolved { refusal, evaluations: 0 });
+    let expected = [
+        of(CALL, 9.5, 95.0, 0.5),
+        of(CALL, 6.1, 100.0, 0.5),
+        of(PUT, 8.6, 105.0, 0.5),
+        unheard(Refusal::Strike),
+        offered(0.24),
+        unheard(Refusal::Price),
+        offered(0.26),
+        unheard(Refusal::Volatility),
+        of(CALL, 8.2, 105.0, 1.0),
+        Err(Unsolved { refusal: Refusal::NotBracketed, evaluations: 2 }),
+    ];
+    assert_eq!(tray.answers, expected);
+    let errors = [0xBE9ECC7E40000000, 0xBDFF035800000000, 0xBE8AC2394C000000, 0, 0, 0x3ED67DB42E400000];
+    for (answer, bits) in tray.answers.iter().flatten().zip(errors) {
+        same(answer.error, bits);
+    }
+    let evaluations = expected.map(|answer| answer.map_or_else(|unsolved| unsolved.evaluations, |solved| solved.evaluations));
+    assert!(evaluations[0] > 2 && evaluations[8] > 2);
+    assert_eq!(tray.totals.evaluations, evaluations.iter().sum::<u64>());
     assert_eq!(tray.quotes.len(), 6);
     for (quote, bits) in tray.quotes.iter().zip(solved) {
         same(quote.volatility, bits);
@@ -280,7 +307,7 @@ fn a_tray() {
 fn the_desks_lines() {
     let tray =
         quote_tray(100.0, 0.0, &[volatility(90.0, 0.5, 0.25), volatility(110.0, 0.5, 0.5), volatility(f64::NAN, 0.5, 0.25)]).unwrap();
-    assert_eq!(tray.answers, [Ok(0.25), Ok(0.5), Err(Refusal::Strike)]);
+    assert!(tray.volatilities().eq([Ok(0.25), Ok(0.5), Err(Refusal::Strike)]));
     assert_eq!(tray.surface.unwrap().interpolate(100.0, 0.5), Ok(0.375));
 }
 

@@ -104,7 +104,9 @@ fn offers_out_of_range() {
     ];
     let offers = table.map(|(offer, _)| offer);
     let tray = quote_tray(100.0, 0.03, &offers).unwrap();
-    assert_eq!(tray.answers, table.map(|(_, refusal)| Err(refusal)));
+    // Only the price that no volatility gives reaches the solver, which prices both ends.
+    let refused = |(_, refusal)| Err(Unsolved { refusal, evaluations: if refusal == Refusal::NotBracketed { 2 } else { 0 } });
+    assert_eq!(tray.answers, table.map(refused));
     assert_eq!((tray.totals.kept, tray.totals.refused, tray.totals.heard, tray.totals.evaluations), (0, 11, 11, 2));
     assert!(tray.quotes.is_empty());
     assert!(tray.surface.unwrap().strikes().is_empty());
@@ -114,8 +116,8 @@ fn offers_out_of_range() {
 fn a_full_book() {
     let offers = vec![Offer::Volatility { strike: 100.0, expiry: 1.0, volatility: 0.25 }; 1030];
     let tray = quote_tray(100.0, 0.03, &offers).unwrap();
-    assert!(tray.answers[..1024].iter().all(|a| *a == Ok(0.25)));
-    assert!(tray.answers[1024..].iter().all(|a| *a == Err(Refusal::BookFull)));
+    assert!(tray.volatilities().take(1024).all(|a| a == Ok(0.25)));
+    assert_eq!(tray.answers[1024..], [Err(Unsolved { refusal: Refusal::BookFull, evaluations: 0 }); 6]);
     assert_eq!((tray.totals.kept, tray.totals.refused, tray.totals.heard), (1024, 6, 1030));
     assert_eq!(tray.surface.unwrap().cell(0, 0).unwrap().count, 1024);
 }
@@ -124,8 +126,9 @@ fn a_full_book() {
 fn a_book_that_heard_60000() {
     let offers = vec![Offer::Volatility { strike: f64::NAN, expiry: 1.0, volatility: 0.25 }; 60002];
     let tray = quote_tray(100.0, 0.03, &offers).unwrap();
-    assert_eq!(tray.answers[59999], Err(Refusal::Strike));
-    assert_eq!(tray.answers[60000..], [Err(Refusal::BookClosed); 2]);
+    let refused = |refusal| Err(Unsolved { refusal, evaluations: 0 });
+    assert_eq!(tray.answers[59999], refused(Refusal::Strike));
+    assert_eq!(tray.answers[60000..], [refused(Refusal::BookClosed); 2]);
     assert_eq!((tray.totals.refused, tray.totals.heard), (60000, 60000));
 }
 

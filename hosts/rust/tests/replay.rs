@@ -1,7 +1,8 @@
 //! The replay list (crates/replay/stdin): what the Rust that document 01 names answered to a sample of questions, asked again through this crate.
 //! A line is a kind and words of 16 hexadecimal digits: inputs, then the answer's number (0 for done) and values. oracle/src/bin/sample.rs writes it.
 use kitesettee::{
-    bsm_greeks, bsm_price, fill_gaps, implied_volatility, normal, quote_tray, Offer, OptionParams, OptionType, Quote, Refusal, Surface,
+    bsm_greeks, bsm_price, fill_gaps, implied_volatility, normal, quote_tray, Offer, OptionParams, OptionType, Quote, Refusal, Solved,
+    Surface, Unsolved,
 };
 use std::collections::BTreeMap;
 
@@ -53,22 +54,32 @@ fn told<const N: usize>(answer: Result<[f64; N], Refusal>) -> Vec<u64> {
     words
 }
 
-/// An implied volatility, and the same as a tray of one offer where no input is refused.
+/// A volatility's answer as words: its number, its evidence, its evaluations.
+fn solved(answer: Result<Solved, Unsolved>) -> Vec<u64> {
+    let evaluations = answer.map_or_else(|unsolved| unsolved.evaluations, |solved| solved.evaluations);
+    let mut words = told(answer.map(|s| [s.volatility, s.error, s.c, s.c_error]).map_err(Refusal::from));
+    words.push(evaluations);
+    words
+}
+
+/// An implied volatility, and the same as a tray of one offer, whose opening takes the spot and the rate first.
 fn solve(words: &Words) -> Vec<u64> {
     let option = words.option(2, 0.0);
     let market = words.float(1);
-    let (answer, evaluations) = match implied_volatility(market, &option) {
-        Ok(s) => (Ok([s.volatility, s.error, s.c, s.c_error]), s.evaluations),
-        Err(unsolved) => (Err(unsolved.refusal), unsolved.evaluations),
-    };
-    if evaluations > 0 {
-        let offer = Offer::Price { option_type: option.option_type, strike: option.strike, expiry: option.time_to_expiry, price: market };
-        let tray = quote_tray(option.spot, option.risk_free_rate, &[offer]).expect("spot and rate passed");
-        assert_eq!(tray.answers, [answer.map(|values| values[0])]);
-        assert_eq!(tray.totals.evaluations, evaluations);
+    let answer = implied_volatility(market, &option);
+    let got = solved(answer);
+    let offer = Offer::Price { option_type: option.option_type, strike: option.strike, expiry: option.time_to_expiry, price: market };
+    match quote_tray(option.spot, option.risk_free_rate, &[offer]) {
+        Ok(tray) => {
+            assert_eq!(tray.answers.iter().copied().map(solved).collect::<Vec<_>>(), std::slice::from_ref(&got));
+            assert_eq!(tray.totals.evaluations, *got.last().unwrap());
+        }
+        Err(refusal) => {
+            assert!(matches!(refusal, Refusal::Spot | Refusal::Rate), "{refusal}");
+            // The price comes before both, the strike and the expiry before the rate.
+            assert!(answer.is_err_and(|unsolved| unsolved.refusal <= refusal), "{answer:?}");
+        }
     }
-    let mut got = told(answer);
-    got.push(evaluations);
     got
 }
 

@@ -46,11 +46,8 @@ fn median(mut xs: Vec<f64>) -> f64 {
 struct Morning {
     spot: f64,
     rate: f64,
-    prices: Vec<bool>,
-    puts: Vec<bool>,
-    strikes: Vec<f64>,
-    expiries: Vec<f64>,
-    values: Vec<f64>,
+    kinds: Vec<[bool; 2]>,
+    figures: Vec<[f64; 3]>,
 }
 
 fn morning(count: usize, seed: u64) -> Morning {
@@ -58,7 +55,7 @@ fn morning(count: usize, seed: u64) -> Morning {
     let (spot, rate) = (100.0, 0.03);
     let mut places: Vec<(usize, usize, bool)> = (0..40).flat_map(|k| (0..25).flat_map(move |t| [(k, t, false), (k, t, true)])).collect();
     r.shuffle(&mut places);
-    let mut m = Morning { spot, rate, prices: Vec::new(), puts: Vec::new(), strikes: Vec::new(), expiries: Vec::new(), values: Vec::new() };
+    let mut m = Morning { spot, rate, kinds: Vec::new(), figures: Vec::new() };
     for (k, t, put) in places {
         let (strike, expiry) = (62.0 + 2.0 * k as f64, (t + 1) as f64 / 12.0);
         let volatility = 0.18 + 0.4 * (strike / spot - 1.0) * (strike / spot - 1.0) + r.uniform(0.0, 0.02);
@@ -68,34 +65,31 @@ fn morning(count: usize, seed: u64) -> Morning {
         let option_type = questions::kind(put);
         let asked = greeks::OptionParams { spot, strike, time_to_expiry: expiry, risk_free_rate: rate, volatility: 0.0, option_type };
         let found = greeks::implied_volatility(cents, &asked);
-        if m.values.len() < count && found.is_ok() {
-            m.prices.push(true);
-            m.puts.push(put);
-            m.strikes.push(strike);
-            m.expiries.push(expiry);
-            m.values.push(cents);
+        if m.figures.len() < count && found.is_ok() {
+            m.kinds.push([true, put]);
+            m.figures.push([strike, expiry, cents]);
         }
     }
-    assert_eq!(m.values.len(), count);
+    assert_eq!(m.figures.len(), count);
     m
 }
 
-/// The Rust's driver, for each of its three builds: the quotes solved, one after the other.
+/// The Rust's driver, for each of its builds: the quotes solved, one after the other.
 macro_rules! solved {
     ($greeks:ident, $m:expr) => {{
         let m: &Morning = $m;
-        let mut points = Vec::with_capacity(m.values.len());
-        for i in 0..m.values.len() {
+        let mut points = Vec::with_capacity(m.figures.len());
+        for ([_, put], [strike, expiry, market]) in m.kinds.iter().zip(&m.figures) {
             let p = $greeks::OptionParams {
                 spot: m.spot,
-                strike: m.strikes[i],
-                time_to_expiry: m.expiries[i],
+                strike: *strike,
+                time_to_expiry: *expiry,
                 risk_free_rate: m.rate,
                 volatility: 0.0,
-                option_type: if m.puts[i] { $greeks::OptionType::Put } else { $greeks::OptionType::Call },
+                option_type: if *put { $greeks::OptionType::Put } else { $greeks::OptionType::Call },
             };
-            if let Ok(implied_vol) = $greeks::implied_volatility(m.values[i], &p) {
-                points.push(surface::VolPoint { strike: m.strikes[i], expiry: m.expiries[i], implied_vol });
+            if let Ok(implied_vol) = $greeks::implied_volatility(*market, &p) {
+                points.push(surface::VolPoint { strike: *strike, expiry: *expiry, implied_vol });
             }
         }
         points
@@ -103,18 +97,28 @@ macro_rules! solved {
 }
 
 fn quote(m: &Morning, t: &mut Tray) -> u64 {
-    ours::quote_tray(m.spot, m.rate, &m.prices, &m.puts, &m.strikes, &m.expiries, &m.values, t)
+    ours::quote_tray(m.spot, m.rate, &m.kinds, &m.figures, t)
+}
+
+/// The evaluations that the Rust makes for a tray; ours made the same for each quote, and hands out the same evidence.
+fn evaluations(m: &Morning, t: &Tray) -> u64 {
+    let one = |i: usize| {
+        notes::clear();
+        solved!(greeks_noted, &Morning { kinds: vec![m.kinds[i]], figures: vec![m.figures[i]], ..*m });
+        assert_eq!(t.numbers[i], [0, notes::evaluations()]);
+        assert_eq!(t.evidence[i].map(f64::to_bits), notes::answer().unwrap().map(f64::to_bits));
+        notes::evaluations()
+    };
+    (0..m.figures.len()).map(one).sum()
 }
 
 /// Both give the same bits and make the same evaluations.
 fn agree(m: &Morning, t: &Tray, number: u64) -> u64 {
-    notes::clear();
-    let noted = solved!(greeks_noted, m);
-    let evaluations = notes::evaluations();
-    assert_eq!((number, t.totals[0], t.totals[3]), (0, m.values.len() as u64, evaluations));
-    for points in [noted, solved!(greeks_digits, m), solved!(greeks, m)] {
-        assert_eq!(points.len(), m.values.len());
-        assert!(points.iter().zip(&t.solved).all(|(p, v)| p.implied_vol.to_bits() == v.to_bits()));
+    let evaluations = evaluations(m, t);
+    assert_eq!((number, t.totals[0], t.totals[3]), (0, m.figures.len() as u64, evaluations));
+    for points in [solved!(greeks_digits, m), solved!(greeks, m)] {
+        assert_eq!(points.len(), m.figures.len());
+        assert!(points.iter().zip(&t.evidence).all(|(p, row)| p.implied_vol.to_bits() == row[0].to_bits()));
     }
     let s = surface::VolSurface::from_points(solved!(greeks, m));
     for i in 0..t.buffers.lengths[1] as usize {
@@ -161,8 +165,8 @@ fn measure(count: usize, runs: usize) -> Row {
                 black_box(quote(black_box(&m), &mut t));
             }),
             timed(|| {
-                for i in 0..count {
-                    black_box(ours::implied(m.puts[i], [m.values[i], m.spot, m.strikes[i], m.expiries[i], m.rate]));
+                for ([_, put], [strike, expiry, market]) in m.kinds.iter().zip(&m.figures) {
+                    black_box(ours::implied(*put, [*market, m.spot, *strike, *expiry, m.rate]));
                 }
             }),
             timed(|| {

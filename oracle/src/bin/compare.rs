@@ -354,11 +354,8 @@ impl Question for Offers {
         while size > 0 {
             for from in (0..n).step_by(size) {
                 let (mut o, to) = (self.clone(), (from + size).min(n));
-                o.prices.drain(from..to);
-                o.puts.drain(from..to);
-                o.strikes.drain(from..to);
-                o.expiries.drain(from..to);
-                o.values.drain(from..to);
+                o.kinds.drain(from..to);
+                o.figures.drain(from..to);
                 out.push(o);
             }
             size /= 2;
@@ -367,8 +364,9 @@ impl Question for Offers {
     }
     fn shown(&self) -> String {
         let offer = |i: usize| {
-            let what = if !self.prices[i] { "volatility" } else if self.puts[i] { "put" } else { "call" };
-            format!("({what} {} {} {})", show(self.strikes[i]), show(self.expiries[i]), show(self.values[i]))
+            let ([price, put], [strike, expiry, value]) = (self.kinds[i], self.figures[i]);
+            let what = if !price { "volatility" } else if put { "put" } else { "call" };
+            format!("({what} {} {} {})", show(strike), show(expiry), show(value))
         };
         let offers: Vec<String> = (0..self.len().min(6)).map(offer).collect();
         format!("spot {}, rate {}, {} offers: {}", show(self.spot), show(self.rate), self.len(), offers.join(" "))
@@ -468,6 +466,22 @@ fn solved(put: bool, v: [f64; 5]) -> (Result<f64, GreekError>, u64, [f64; 4], u6
     (rust, number, values, made)
 }
 
+/// What is wrong with an answer of ours beside the points that the Rust has just tried.
+fn unsound(market: f64, number: u64, [volatility, error, c, c_error]: [f64; 4]) -> Option<String> {
+    // 11 is out of reach: inside 01's ranges every price of the model is finite (crates/bounds).
+    if let Some(at) = notes::first_not_finite(market) {
+        return Some(format!("the Rust's error at evaluation {at} is not finite, ours {number}"));
+    }
+    if let Some(x) = notes::all_tried().iter().map(|t| t.0).find(|x| !checks::is_volatility(*x)) {
+        return Some(format!("S-10: no point is out of range, the Rust tried {}", show(x)));
+    }
+    let tried = |x: f64, error: f64| notes::tried(x).is_some_and(|p| same_bits(p - market, error));
+    if number == 0 && !(tried(volatility, error) && tried(c, c_error)) {
+        return Some(format!("ours {} {} or {} {} was not tried", show(volatility), show(error), show(c), show(c_error)));
+    }
+    None
+}
+
 fn implied(q: &Named) -> Verdict {
     let [market, spot, strike, expiry, rate] = q.0.values;
     let check = checks::implied(market, spot, strike, expiry, rate);
@@ -477,19 +491,12 @@ fn implied(q: &Named) -> Verdict {
         let value = rust.map(|v| [v]);
         return turned_down(check, number, zeros(&got) && evaluations == 0, value.as_ref().map(|v| &v[..]));
     }
-    // 11 is out of reach: inside 01's ranges every price of the model is finite (crates/bounds).
-    if let Some(at) = notes::first_not_finite(market) {
-        return Unlisted(format!("the Rust's error at evaluation {at} is not finite, ours {number} at {evaluations}"));
+    if number != expected || !all_same(&got, &values) || evaluations != made {
+        return Unlisted(format!("ours {number} {got:?} {evaluations}, the Rust {rust:?} {values:?} {made}"));
     }
-    if let Some(x) = notes::all_tried().iter().map(|t| t.0).find(|x| !checks::is_volatility(*x)) {
-        return Unlisted(format!("S-10: no point is out of range, the Rust tried {}", show(x)));
-    }
-    let tried = |x: f64, error: f64| notes::tried(x).is_some_and(|p| same_bits(p - market, error));
-    let evidence = number != 0 || (tried(got[0], got[1]) && tried(got[2], got[3]));
-    if number == expected && all_same(&got, &values) && evaluations == made && evidence {
-        Same(if number == 0 { "values".to_string() } else { format!("refused by {number}") })
-    } else {
-        Unlisted(format!("ours {number} {got:?} {evaluations}, the Rust {rust:?} {values:?} {made}"))
+    match unsound(market, number, got) {
+        None => Same(if number == 0 { "values".to_string() } else { format!("refused by {number}") }),
+        Some(what) => Unlisted(what),
     }
 }
 
@@ -524,7 +531,10 @@ impl Question for Fed {
     }
 }
 
-const OVER: &str = "  state 0000000000000000 0000000000000000 0000000000000000 0000000000000000 0000000000000000 0000000000000000 0000000000000000 0000000000000000 0000000000000000 0 0";
+const OVER: &str = concat!(
+    "  state 0000000000000000 0000000000000000 0000000000000000 0000000000000000 0000000000000000",
+    " 0000000000000000 0000000000000000 0000000000000000 0000000000000000 0 0"
+);
 
 fn bits(x: f64) -> u64 {
     if x.is_nan() { 0x7ff8_0000_0000_0000 } else { x.to_bits() }
@@ -550,7 +560,8 @@ fn told(q: &Fed) -> (Vec<String>, Option<u64>, String) {
         next += 1;
         prices.get(next - 1).copied().unwrap_or(f64::NAN)
     }));
-    let any = greeks_fed::OptionParams { spot: 1.0, strike: 1.0, time_to_expiry: 1.0, risk_free_rate: 0.0, volatility: 1.0, option_type: greeks_fed::OptionType::Call };
+    let call = greeks_fed::OptionType::Call;
+    let any = greeks_fed::OptionParams { spot: 1.0, strike: 1.0, time_to_expiry: 1.0, risk_free_rate: 0.0, volatility: 1.0, option_type: call };
     let rust = greeks_fed::implied_volatility(q.market, &any);
     let tried = notes::all_tried();
     let mut lines = vec![asked(tried[0].0, 0, 0)];
@@ -620,7 +631,8 @@ fn fed_question(r: &mut Random, family: Family) -> Fed {
     let (market, model) = questions::model(r, family);
     notes::clear();
     notes::set_model(model);
-    let any = greeks_fed::OptionParams { spot: 1.0, strike: 1.0, time_to_expiry: 1.0, risk_free_rate: 0.0, volatility: 1.0, option_type: greeks_fed::OptionType::Call };
+    let call = greeks_fed::OptionType::Call;
+    let any = greeks_fed::OptionParams { spot: 1.0, strike: 1.0, time_to_expiry: 1.0, risk_free_rate: 0.0, volatility: 1.0, option_type: call };
     let _ = greeks_fed::implied_volatility(market, &any);
     let mut prices: Vec<f64> = notes::all_tried().iter().map(|t| t.1).collect();
     if let Some(end) = prices.iter().position(|p| !(p - market).is_finite()) {
@@ -848,13 +860,35 @@ fn fill(q: &Gaps) -> Verdict {
     if all_same(&expected, &lent) { Same("values".to_string()) } else { Unlisted("the cells differ".to_string()) }
 }
 
+/// What an offer is answered in 01's terms: number, evaluations; volatility, error, point c, error there.
+type Answer = ([u64; 2], [f64; 4]);
+
+/// 01's answer to an offer, by the Rust's solver where it is a price, and what is wrong with ours beside what that tried.
+fn heard(o: &Offers, i: usize, full: bool, ours: Answer) -> (Answer, Option<String>) {
+    let ([price, put], [strike, expiry, value]) = (o.kinds[i], o.figures[i]);
+    let own = if price { checks::priced(strike, expiry, value) } else { checks::offered(strike, expiry, value) };
+    let number = if full { 4 } else { own.number };
+    if number != 0 {
+        (([number, 0], [0.0; 4]), None)
+    } else if price {
+        let (_, number, values, made) = solved(put, [value, o.spot, strike, expiry, o.rate]);
+        (([number, made], values), unsound(value, ours.0[0], ours.1))
+    } else {
+        (([0, 0], [value, 0.0, 0.0, 0.0]), None)
+    }
+}
+
 /// A whole tray: 01's book over the Rust's solver and surface. The Rust has no book, so there is no other answer to differ from.
 fn tray(o: &Offers) -> Verdict {
     let mut t = Tray::new(o.len());
-    let number = ours::quote_tray(o.spot, o.rate, &o.prices, &o.puts, &o.strikes, &o.expiries, &o.values, &mut t);
+    tray_verdict(o, &mut t)
+}
+
+fn tray_verdict(o: &Offers, t: &mut Tray) -> Verdict {
+    let number = ours::quote_tray(o.spot, o.rate, &o.kinds, &o.figures, t);
     let opening = if !checks::is_spot(o.spot) { 6 } else if !checks::is_rate(o.rate) { 9 } else { 0 };
     if opening != 0 {
-        let untouched = t.numbers.iter().all(|n| *n == 1234) && t.rest_untouched(0) && t.buffers.rest_untouched(0, 0);
+        let untouched = t.unanswered() && t.rest_untouched(0) && t.buffers.rest_untouched(0, 0);
         if number == opening && untouched && t.totals == [0; 4] && t.buffers.lengths == [0, 0] {
             return Same(format!("refused openings by {number}"));
         }
@@ -863,26 +897,19 @@ fn tray(o: &Offers) -> Verdict {
     let mut kept = Quotes::default();
     let (mut refused, mut evaluations) = (0, 0);
     for i in 0..o.len() {
-        let (strike, expiry, value) = (o.strikes[i], o.expiries[i], o.values[i]);
-        let own = if o.prices[i] { checks::priced(strike, expiry, value) } else { checks::offered(strike, expiry, value) };
-        let (answer, volatility) = if kept.len() == 1024 {
-            (4, 0.0)
-        } else if own.number != 0 {
-            (own.number, 0.0)
-        } else if o.prices[i] {
-            let (_, answer, values, made) = solved(o.puts[i], [value, o.spot, strike, expiry, o.rate]);
-            evaluations += made;
-            (answer, values[0])
-        } else {
-            (0, value)
-        };
-        if answer == 0 {
-            kept.push(strike, expiry, volatility);
+        let ours = (t.numbers[i], t.evidence[i]);
+        let ((numbers, evidence), wrong) = heard(o, i, kept.len() == 1024, ours);
+        if numbers != ours.0 || !all_same(&evidence, &ours.1) {
+            return Unlisted(format!("offer {i}: {numbers:?} {evidence:?}, ours {:?} {:?}", ours.0, ours.1));
+        }
+        if let Some(what) = wrong {
+            return Unlisted(format!("offer {i}: {what}"));
+        }
+        evaluations += numbers[1];
+        if numbers[0] == 0 {
+            kept.push(o.figures[i][0], o.figures[i][1], evidence[0]);
         } else {
             refused += 1;
-        }
-        if t.numbers[i] != answer || !same_bits(t.solved[i], volatility) {
-            return Unlisted(format!("offer {i}: {answer} {}, ours {} {}", show(volatility), t.numbers[i], show(t.solved[i])));
         }
     }
     let n = kept.len();
@@ -1066,15 +1093,18 @@ fn main() {
     kinds.push(("gap filler".to_string(), k));
 
     let (mut r, mut k) = (random(17), Kind::default());
-    let mut heard = 0;
+    let (mut heard, mut solved) = (0, 0);
     while heard < count {
         for family in FAMILIES {
             let o = questions::offers(&mut r, family);
+            let mut t = Tray::new(o.len());
+            let verdict = tray_verdict(&o, &mut t);
             heard += o.len() as u64;
-            k.ask(tray(&o), || o.clone(), tray);
+            solved += t.numbers.iter().filter(|row| row[0] == 0 && row[1] > 0).count();
+            k.ask(verdict, || o.clone(), tray);
         }
     }
-    k.notes.push(format!("{heard} offers"));
+    k.notes.push(format!("{heard} offers, an answer and its evidence for each; {solved} prices solved"));
     k.print("whole trays");
     kinds.push(("whole trays".to_string(), k));
 

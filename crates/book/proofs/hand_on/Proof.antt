@@ -1,5 +1,4 @@
--- `book::hand_on`: the solver refused, with a number above 3 and at most 52 evaluations. Assumes nothing.
-use Prim.Native.Nat.{_≤_}
+-- `book::hand_on`: the solver refused, with a number above 3 and no more evaluations than a run has. Assumes nothing.
 use mathlib.Core.Path.{sym, ap, subst}
 use native.Mathlib.Omega.{arith}
 use borrow.Author.Tests.{lt-leb}
@@ -8,7 +7,7 @@ use Rattle.greeks.specs.Implied.{outcomeOfImplied}
 use Rattle.greeks.specs.declared.Implied.{Implied}
 use Rattle.ledger.specs.Book.{bookAfter}
 use Rattle.ledger.specs.Calls.{Turned}
-use Rattle.book.proofs.Records.{bounds-of}
+use Rattle.ledger.proofs.Sound.{bounds-of}
 use Rattle.book.proofs.Solver.{not-refused}
 use borrow.Author.Needs.{needs}
 use Rattle.book.proofs.hand_on.Statement.{statement}
@@ -35,7 +34,8 @@ returns-2 : tie.Need-returns-2
 unfolding outcomeOfImplied bookAfter zeros
 returns-2 c =
     let t = subst (λ (x : Implied). Turned (outcomeOfImplied x)) (c .before .before .answer .given .1) (c .before .before .before .before .pre .2) in
-    record { outcome = ap outcomeOfImplied (sym (c .before .before .answer .given .1)); book = simp (c .before .before .answer .given .1, lt-leb _ 3 (t .0)) (c .turned .ensures) }
+    let same = c .before .before .answer .given .1 in
+    record { outcome = ap outcomeOfImplied (sym same); book = simp (same, lt-leb _ 3 (t .0)) (c .turned .ensures) }
 
 pub hand-on-spec : {M : Type 1} → statement M
 hand-on-spec = tie.close (tie.spec enum-known-answer enum-told returns turned-requires returns-2)

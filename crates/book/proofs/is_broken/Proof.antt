@@ -19,14 +19,18 @@ returns-2 c = simp (lt-ltb _ _ (c .if2 .taken), or-true)
 
 returns-3 : tie.Need-returns-3
 unfolding isBroken
-returns-3 c = let b = c .before .before .before .before .before .before .args .b in simp (ne-eqb (b .kept + b .refused) (b .heard) (λ (e : b .kept + b .refused ≡ b .heard). omega (arith, c .if3 .taken)), or-true)
+returns-3 c =
+    let b = c .before .before .before .before .before .before .args .b in simp
+    (ne-eqb (b .kept + b .refused) (b .heard) (λ (e : b .kept + b .refused ≡ b .heard). omega (arith, c .if3 .taken)), or-true)
 
 add-if4 : tie.Need-add-if4
 add-if4 c = search needs
 
 returns-4 : tie.Need-returns-4
 unfolding isBroken
-returns-4 c = simp (ne-eqb _ _ (c .if4 .taken), or-true)
+returns-4 c =
+    let b = c .before .before .before .before .before .before .before .before .before .args .b in
+    simp (ne-eqb (b .kept + b .refused) (b .heard) (c .if4 .taken), or-true)
 
 mul-if5 : tie.Need-mul-if5
 mul-if5 c = search needs
@@ -48,8 +52,13 @@ is-rate-requires c κs = search needs
 returns-7 : tie.Need-returns-7
 unfolding isBroken
 returns-7 c =
-    let t = simp (c .before .before .is-spot .ensures) at (c .before .if6 .left) in
-    simp (le-ltb _ _ (c .before .before .before .before .before .before .before .before .before .before .before .before .before .if1 .left), eq-eqb _ _ (c .before .before .before .before .before .before .if4 .left), le-ltb _ _ (c .before .before .before .before .before .before .before .before .before .before .before .if2 .left), le-ltb _ _ (c .before .before .before .if5 .left), t, c .is-rate .ensures)
+    let six = c .before in
+    let five = six .before .before in
+    let four = five .before .before .before in
+    let two = four .before .before .before .before .before in
+    let spot = simp (six .before .is-spot .ensures) at (six .if6 .left) in
+    let one = two .before .before in
+    simp (le-ltb _ _ (one .if1 .left), eq-eqb _ _ (four .if4 .left), le-ltb _ _ (two .if2 .left), le-ltb _ _ (five .if5 .left), spot, c .is-rate .ensures)
 
 pub is-broken-spec : {M : Type 1} → statement M
 is-broken-spec =

@@ -2,6 +2,7 @@
 use mathlib.Core.Path.{_≡_, sym, _∙_}
 use borrow.Author.Tests.{eq-eqb, ne-eqb}
 use lib.Ieee.{ofBits, round}
+use Rattle.limits.specs.Outcome.{answered}
 use Rattle.ledger.specs.Book.{openRefusal, opened, outcomeOfOpening}
 use borrow.Author.Needs.{needs}
 use Rattle.book.proofs.open.Statement.{statement}
@@ -14,7 +15,7 @@ fresh-requires : tie.Need-fresh-requires
 fresh-requires c κs = search needs
 
 returns : tie.Need-returns
-unfolding opened outcomeOfOpening ofBits round
+unfolding opened answered outcomeOfOpening ofBits round
 returns c =
     let a = c .before .before .before .args in
     let n = c .before .before .open-number .ensures in
@@ -25,7 +26,7 @@ fresh-requires-2 : tie.Need-fresh-requires-2
 fresh-requires-2 c κs = search needs
 
 returns-2 : tie.Need-returns-2
-unfolding opened outcomeOfOpening
+unfolding opened answered outcomeOfOpening
 returns-2 c =
     let a = c .before .before .before .args in
     let z = sym (c .before .before .open-number .ensures) ∙ c .before .if1 .left in

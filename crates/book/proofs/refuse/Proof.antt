@@ -5,7 +5,7 @@ use borrow.Author.Tests.{le-leb, lt-leb}
 use Rattle.brent.specs.Outcome.{zeros}
 use Rattle.greeks.specs.Implied.{outcomeOfImplied}
 use Rattle.ledger.specs.Book.{bookAfter}
-use Rattle.book.proofs.Records.{bounds-of}
+use Rattle.ledger.proofs.Sound.{bounds-of}
 use Rattle.book.proofs.refuse.Statement.{statement}
 use Rattle.book.proofs.refuse.Tie as tie
 
@@ -16,9 +16,9 @@ returns c = record { outcome = refl; book = simp (le-leb _ _ (c .if1 .taken)) }
 turned-requires : tie.Need-turned-requires
 turned-requires c κs =
     let b = c .before .args .b in
-    let h = bounds-of b (c .before .pre .0 (c .if1 .left)) in
-    let g = c .before .pre .1 (c .if1 .left) in
-    (omega arith, g, omega arith)
+    let p = c .before .pre (c .if1 .left) in
+    let h = bounds-of b (p .0) in
+    (omega arith, p .1, omega arith)
 
 returns-2 : tie.Need-returns-2
 unfolding outcomeOfImplied bookAfter zeros

@@ -19,7 +19,9 @@ step-requires c κs = search needs
 
 returns : tie.Need-returns
 unfolding ofBits round advance
-returns c = simp (c .before .step .ensures, c .before .before .steps .ensures, c .before .before .before .middle .ensures, c .before .before .before .before .tolerance .ensures)
+returns c =
+    let at = c .before .before in
+    simp (c .before .step .ensures, at .steps .ensures, at .before .middle .ensures, at .before .before .tolerance .ensures)
 
 pub advance-spec : {M : Type 1} → statement M
 advance-spec =

@@ -26,7 +26,8 @@ returns c =
 returns-2 : tie.Need-returns-2
 unfolding ofBits round converged
 returns-2 c =
-    let t = simp (c .before .before .before .abs .ensures, c .before .before .before .before .middle .ensures, c .before .before .tolerance .ensures) at (c .before .if1 .left) in
+    let t = simp (c .before .before .before .abs .ensures, c .before .before .before .before .middle .ensures, c .before .before .tolerance .ensures) at
+    (c .before .if1 .left) in
     simp (c .abs2 .ensures, t)
 
 pub converged-spec : {M : Type 1} → statement M

@@ -3,12 +3,19 @@ use Prim.Native.Nat.{_≤_}
 use mathlib.Core.Path.{sym, subst}
 use lib.ListN.{length}
 use borrow.Author.Needs.{needs}
-use Rattle.ledger.specs.Book.{columns}
+use Rattle.ledger.specs.Book.{columnsOf}
 use Rattle.lines.specs.Calls.{Left}
 use Rattle.lines.specs.Claims.{countOf}
 use Rattle.lines.proofs.Programs.{fed-within, finished-within}
 use Rattle.desk.proofs.hear.Statement.{statement}
 use Rattle.desk.proofs.hear.Tie as tie
+
+-- ---- places
+abbrev finished : tie.After-slice-known8 → tie.After-finish
+finished c = c .before .before .before .before .before .before .before .before
+
+abbrev fed : tie.After-slice-known12 → tie.After-feed
+fed c = c .before .before .before .before .before .before .before .before
 
 finish-requires : tie.Need-finish-requires
 finish-requires c κs = search needs
@@ -27,8 +34,10 @@ same-length-4 c = search needs
 
 returns : tie.Need-returns
 returns c =
-    let a = c .before .before .before .before .before .before .before .before .before .before .before .before .before .before .before .before .before .before .before .args in
-    subst (λ (z : Left). countOf (z .fed .text) ≤ length (z .out)) (sym (c .before .before .before .before .before .before .before .before .finish .ensures)) (finished-within (a .state) (columns (a .strikes .now) (a .expiries .now) (a .volatilities .now)) (a .out .now))
+    let f = finished c in
+    let a = f .before .before .before .before .before .before .before .before .before .before .before .args in
+    subst (λ (z : Left). countOf (z .fed .text) ≤ length (z .out)) (sym (f .finish .ensures))
+    (finished-within (a .state) (columnsOf (a .strikes .now) (a .expiries .now) (a .volatilities .now)) (a .out .now))
 
 feed-requires : tie.Need-feed-requires
 feed-requires c κs = search needs
@@ -47,8 +56,10 @@ same-length-8 c = search needs
 
 returns-2 : tie.Need-returns-2
 returns-2 c =
-    let a = c .before .before .before .before .before .before .before .before .before .before .before .before .before .before .before .before .before .before .before .args in
-    subst (λ (z : Left). countOf (z .fed .text) ≤ length (z .out)) (sym (c .before .before .before .before .before .before .before .before .feed .ensures)) (fed-within (a .state) (columns (a .strikes .now) (a .expiries .now) (a .volatilities .now)) (a .part .now) (a .out .now))
+    let f = fed c in
+    let a = f .before .before .before .before .before .before .before .before .before .before .before .args in
+    subst (λ (z : Left). countOf (z .fed .text) ≤ length (z .out)) (sym (f .feed .ensures))
+    (fed-within (a .state) (columnsOf (a .strikes .now) (a .expiries .now) (a .volatilities .now)) (a .part .now) (a .out .now))
 
 pub hear-spec : {M : Type 1} → statement M
 hear-spec =

@@ -10,7 +10,8 @@ enum-known-text c = search needs
 
 slice-aggregate-write-all : tie.Need-slice-aggregate-write-all
 slice-aggregate-write-all c =
-    sym (length-take-le _ (c .before .before .before .before .before .args .out .now) (rw (c .before .before .text .given .1) at (c .before .before .before .before .before .pre)))
+    let s = c .before .before .before .before .before in
+    sym (length-take-le _ (s .args .out .now) (rw (c .before .before .text .given .1) at (s .pre)))
 
 write-all-requires : tie.Need-write-all-requires
 write-all-requires c κs = search needs

@@ -27,7 +27,8 @@ is-digit-requires c κs = tt
 returns : tie.Need-returns Inv-loop μ-loop
 returns c =
     let l = c .before .before .before .before in
-    sym (all-stop (l .before .before .args .s .now) (l .loop .i) (omega arith) (sym (c .before .is-digit .ensures) ∙ not-true _ (c .if1 .taken))) ∙ l .loop .inv .1
+    sym (all-stop (l .before .before .args .s .now) (l .loop .i) (omega arith) (sym (c .before .is-digit .ensures) ∙ not-true _ (c .if1 .taken)))
+    ∙ l .loop .inv .1
 
 add-i : tie.Need-add-i Inv-loop μ-loop
 add-i c = omega arith

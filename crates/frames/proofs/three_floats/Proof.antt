@@ -23,7 +23,9 @@ unfolding frameOf isFrame
 returns c =
     let k = c .before .before .before .before in
     let p = k .before .before .pre in
-    simp (p .0, p .1, sym (k .kind .ensures) ∙ c .if1 .taken, c .before .before .before .float-at .ensures, c .before .before .float-at2 .ensures, c .before .float-at3 .ensures)
+    let third = c .before in
+    let kind = sym (k .kind .ensures) ∙ c .if1 .taken in
+    simp (p .0, p .1, kind, third .before .before .float-at .ensures, third .before .float-at2 .ensures, third .float-at3 .ensures)
 
 returns-2 : tie.Need-returns-2
 unfolding frameOf isFrame

@@ -1,6 +1,6 @@
 -- `greeks::prepare`: each field is what its call ensures. Assumes nothing.
+use mathlib.Core.Path.{refl}
 use Rattle.greeks.specs.Model.{discount}
-use Rattle.greeks.specs.Prepared.{prepare}
 use borrow.Author.Needs.{needs}
 use Rattle.greeks.proofs.prepare.Statement.{statement}
 use Rattle.greeks.proofs.prepare.Tie as tie
@@ -15,8 +15,8 @@ exp-requires : tie.Need-exp-requires
 exp-requires c κs = search needs
 
 returns : tie.Need-returns
-unfolding prepare discount
-returns c = simp (c .exp .ensures, c .before .sqrt .ensures .equals, c .before .before .ln .ensures)
+unfolding discount
+returns c = (refl, record { moneyness = cc; root = cc; discount = cc })
 
 pub prepare-spec : {M : Type 1} → statement M
 prepare-spec = tie.close (tie.spec ln-requires sqrt-requires exp-requires returns)

@@ -47,7 +47,8 @@ loop-less : tie.Need-loop-less Inv-loop μ-loop
 loop-less c = omega arith
 
 loop-again : tie.Need-loop-again Inv-loop μ-loop
-loop-again c = (omega arith, omega (arith, one-at-most (eqb (c .before .before .turn .result) 2)), omega (arith, one-at-most (eqb (c .before .before .turn .result) 3)))
+loop-again c =
+    (omega arith, omega (arith, one-at-most (eqb (c .before .before .turn .result) 2)), omega (arith, one-at-most (eqb (c .before .before .turn .result) 3)))
 
 print-count-requires : tie.Need-print-count-requires Inv-loop μ-loop
 print-count-requires c κs = tt

@@ -1,5 +1,4 @@
 -- `grid::atm_vol`: the reading at the middle strike. Assumes nothing.
-use Prim.Native.Nat.{_-_}
 use borrow.Author.Needs.{needs}
 use Rattle.grid.proofs.atm_vol.Statement.{statement}
 use Rattle.grid.proofs.atm_vol.Tie as tie

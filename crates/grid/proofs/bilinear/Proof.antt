@@ -1,6 +1,5 @@
 -- `grid::bilinear`: the expression itself. Assumes nothing.
 use Rattle.grid.specs.Readings.{bilinear}
-use Prim.Native.Nat.{_-_}
 use mathlib.Core.Path.{refl}
 use lib.Ieee.{ofBits, round}
 use Rattle.grid.proofs.bilinear.Statement.{statement}

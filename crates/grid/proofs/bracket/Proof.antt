@@ -1,26 +1,33 @@
 -- `grid::bracket`: the case that its tests chose. Assumes nothing.
 use Rattle.grid.proofs.ReadCases.{bracket-first, bracket-last, bracket-between}
-use Rattle.grid.proofs.ReadChecks.{neither}
+use Rattle.floats.proofs.Tests.{or-right-false}
 use lib.Seq.{length-take-le, getD-take}
 use lib.Dec.{eqb}
 use borrow.Author.Tests.{le-leb, lt-leb, eqb-false}
 use Prim.Native.Nat.{_-_, _<_}
+use mathlib.Core.Path.{_≡_}
+use lib.ListN.{length, take}
 use lib.Ieee.{nan, ofBits, round}
 use borrow.Author.Needs.{needs}
 use native.Mathlib.Omega.{arith}
 use Rattle.grid.proofs.bracket.Statement.{statement}
 use Rattle.grid.proofs.bracket.Tie as tie
 
+abbrev start : tie.After-partition-point → tie.Start
+start c = c .before .before
+
+sized : (s : tie.Start) → length (take (s .args .n) (s .args .sorted .now)) ≡ s .args .n
+sized s = length-take-le (s .args .n) (s .args .sorted .now) (s .pre .1)
+
 partition-point-requires : tie.Need-partition-point-requires
-partition-point-requires c κs = search needs
+partition-point-requires c κs = c .before .pre .1
 
 returns : tie.Need-returns
 unfolding ofBits round
 returns c =
-    let A = c .before .before .before .args in
-    let P = c .before .before .before .pre in
-    let sized = length-take-le (A .n) (A .sorted .now) (P .1) in
-    (bracket-first _ _ _ (A .x) sized (c .before .partition-point .ensures) (c .if1 .taken), P .0, P .0)
+    let found = c .before in
+    let s = start found in
+    (bracket-first _ _ _ (s .args .x) (sized s) (found .partition-point .ensures) (c .if1 .taken), s .pre .0, s .pre .0)
 
 sub-t9 : tie.Need-sub-t9
 sub-t9 c = search needs
@@ -31,17 +38,21 @@ sub-t10 c = search needs
 returns-2 : tie.Need-returns-2
 unfolding ofBits round
 returns-2 c =
-    let A = c .before .before .before .before .args in
-    let P = c .before .before .before .before .pre in
-    let sized = length-take-le (A .n) (A .sorted .now) (P .1) in
-    (bracket-last _ _ _ (A .x) sized (c .before .before .partition-point .ensures) (c .before .if1 .left) (le-leb _ _ (c .if2 .taken)), omega arith, omega arith)
+    let found = c .before .before in
+    let s = start found in
+    let last = bracket-last _ _ _ (s .args .x) (sized s) (found .partition-point .ensures) (c .before .if1 .left) (le-leb _ _ (c .if2 .taken)) in
+    (last, omega arith, omega arith)
+
+-- between two values: the first value above x is an axis value, and not the first
+above : (c : tie.Else2) → c .before .before .partition-point .result ≡ 0 → ⊥
+above c =
+    let found = c .before .before in
+    let n = start found .args .n in
+    let pos = found .partition-point .result in
+    eqb-false pos 0 (or-right-false (eqb n 1) (eqb pos 0) (c .before .if1 .left))
 
 sub-lo : tie.Need-sub-lo
-sub-lo c =
-    let pos = c .before .before .partition-point .result in
-    let z = neither (eqb (c .before .before .before .before .args .n) 1) (eqb pos 0) (c .before .if1 .left) in
-    let w = eqb-false pos 0 (z .1) in
-    omega arith
+sub-lo c = let w = above c in omega arith
 
 mul-fraction : tie.Need-mul-fraction
 mul-fraction c = search needs
@@ -60,14 +71,17 @@ fraction-requires c κs = search needs
 
 returns-3 : tie.Need-returns-3
 returns-3 c =
-    let A = c .before .before .before .before .before .before .before .args in
-    let P = c .before .before .before .before .before .before .before .pre in
-    let sized = length-take-le (A .n) (A .sorted .now) (P .1) in
-    let pos = c .before .before .before .before .before .partition-point .result in
-    let here : pos < A .n = c .before .before .before .if2 .left in
-    let below : pos - 1 < A .n = omega arith in (
-      bracket-between _ _ _ (A .x) sized (c .before .before .before .before .before .partition-point .ensures) _ (c .before .before .before .before .if1 .left) (lt-leb _ _ here)
-          (rw (getD-take (A .n) (A .sorted .now) (pos - 1) nan below, getD-take (A .n) (A .sorted .now) pos nan here) (c .fraction .ensures)),
+    let e = c .before .before .before in
+    let found = e .before .before in
+    let s = start found in
+    let A = s .args in
+    let pos = found .partition-point .result in
+    let here : pos < A .n = e .if2 .left in
+    let below : pos - 1 < A .n = omega arith in
+    let lower = getD-take (A .n) (A .sorted .now) (pos - 1) nan below in
+    let upper = getD-take (A .n) (A .sorted .now) pos nan here in (
+      bracket-between _ _ _ (A .x) (sized s) (found .partition-point .ensures) _ (e .before .if1 .left) (lt-leb _ _ here)
+          (rw (lower, upper) (c .fraction .ensures)),
       below,
       here,
     )

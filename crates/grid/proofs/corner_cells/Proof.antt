@@ -1,6 +1,5 @@
 -- `grid::corner_cells`: four cells by their places. Assumes nothing.
 use Rattle.grid.specs.Readings.{corners}
-use Prim.Native.Nat.{_-_}
 use mathlib.Core.Path.{refl}
 use borrow.Author.Needs.{needs}
 use Rattle.grid.proofs.corner_cells.Statement.{statement}

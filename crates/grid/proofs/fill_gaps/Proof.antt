@@ -1,45 +1,90 @@
 -- `grid::fill_gaps`: the two checks, then rows, then columns. Assumes nothing.
 use Rattle.grid.proofs.ReadChecks.{small}
-use Rattle.grid.specs.Gaps.{fillRefusal, gapsFilled}
-use Rattle.grid.specs.Answers.{answered, unlessRefused}
-use Rattle.limits.specs.Checks.{first}
-use borrow.Author.Tests.{lt-ltb, le-ltb}
-use Prim.Native.Nat.{_-_}
-use borrow.Author.Needs.{needs}
-use native.Mathlib.Omega.{arith}
+use Rattle.grid.specs.Gaps.{columnsSwept, fillRefusal, gapsFilled}
+use Rattle.limits.specs.Outcome.{answered, unlessRefused}
+use Rattle.limits.specs.Checks.{first, none}
+use Rattle.limits.proofs.Checks.{passes}
+use borrow.Author.Tests.{ne-eqb, ltb-false}
+use Prim.Native.Nat.{ℕ, _≤_}
+use mathlib.Core.Path.{_≡_, refl, sym, _∙_, ap}
+use mathlib.Core.Bool.{_||_}
+use mathlib.Core.List.{List, [], _∷_}
+use lib.Dec.{ltb}
+use lib.ListN.{length}
+use lib.Ieee.{Float}
 use Rattle.grid.proofs.fill_gaps.Statement.{statement}
 use Rattle.grid.proofs.fill_gaps.Tie as tie
 
-returns : tie.Need-returns
-unfolding fillRefusal gapsFilled answered unlessRefused first
-returns c = record { answers = simp (c .if1 .taken); grid = simp (c .if1 .taken) }
+-- the number, and what passing says
+abbrev start : tie.After-first2 → tie.Start
+start c = c .before .before .before
 
-returns-2 : tie.Need-returns-2
-unfolding fillRefusal gapsFilled answered unlessRefused first
-returns-2 c = record { answers = simp (c .before .if1 .left, lt-ltb _ _ (c .if2 .taken)); grid = simp (c .before .if1 .left, lt-ltb _ _ (c .if2 .taken)) }
+told : (c : tie.After-first2) → let A = start c .args in fillRefusal (A .strikes) (A .expiries) (A .grid .now) ≡ c .first2 .result
+unfolding fillRefusal
+told c =
+    let A = start c .args in
+    sym (c .first2 .ensures ∙ ap (λ (n : ℕ). first (ltb 64 (A .strikes) || ltb 32 (A .expiries)) 2 n) (c .before .first .ensures))
+
+passed : (c : tie.Else1) → let A = start (c .before) .args in (2048 ≤ length (A .grid .now)) × (A .strikes ≤ 64) × (A .expiries ≤ 32)
+unfolding fillRefusal
+passed c =
+    let A = start (c .before) .args in
+    let large = ltb 64 (A .strikes) || ltb 32 (A .expiries) in
+    let short = ltb (length (A .grid .now)) 2048 in
+    let p = passes ((large, 2) ∷ (short, 15) ∷ []) none refl (told (c .before) ∙ c .if1 .left) .0 in
+    let s = small (A .strikes) (A .expiries) (p .0) in
+    (ltb-false _ 2048 (p .1 .0), s .0, s .1)
+
+first-requires : tie.Need-first-requires
+first-requires c κs = tt
+
+first-requires-2 : tie.Need-first-requires-2
+first-requires-2 c κs = tt
+
+returns : tie.Need-returns
+unfolding answered unlessRefused
+returns c =
+    let e = told (c .before) in
+    let z = ne-eqb _ none (c .if1 .taken) in
+    record { answers = rw (e, z); grid = rw (e, z) }
 
 sweep-rows-requires : tie.Need-sweep-rows-requires
-sweep-rows-requires c κs =
-    let A = c .before .before .before .before .args in
-    omega (arith, small (A .strikes) (A .expiries) (c .before .before .if1 .left))
+sweep-rows-requires c κs = passed (c .before)
+
+-- the rows are swept
+abbrev accepted : tie.After-sweep-rows → tie.Else1
+accepted c = c .before .before
 
 sweep-columns-requires : tie.Need-sweep-columns-requires
 sweep-columns-requires c κs =
-    let A = c .before .before .before .before .before .before .before .before .args in
-    omega (arith, small (A .strikes) (A .expiries) (c .before .before .before .before .before .before .if1 .left))
+    let r = c .before .before .before in
+    let P = passed (accepted r) in
+    (rw (r .sweep-rows .kept .0) (P .0), P .1, P .2)
 
 same-length : tie.Need-same-length
-same-length c = search needs
+same-length c =
+    let s = c .before .before in
+    s .sweep-columns .kept .0 ∙ s .before .before .before .before .sweep-rows .kept .0
 
-returns-3 : tie.Need-returns-3
-unfolding fillRefusal gapsFilled answered unlessRefused first
-returns-3 c =
-    record {
-      answers = simp (c .before .before .before .before .before .before .before .before .before .if1 .left, le-ltb _ _ (c .before .before .before .before .before .before .before .before .if2 .left));
-      grid = simp (c .before .before .before .before .before .before .before .before .before .if1 .left, le-ltb _ _ (c .before .before .before .before .before .before .before .before .if2 .left)) (rw (← c .before .before .before .before .before .before .sweep-rows .ensures) (c .before .before .sweep-columns .ensures));
-    }
+returns-2 : tie.Need-returns-2
+unfolding answered unlessRefused gapsFilled
+returns-2 c =
+    let s = c .before .before in
+    let r = s .before .before .before .before in
+    let a = accepted r in
+    let e = told (a .before) ∙ a .if1 .left in
+    let A = start (a .before) .args in
+    let w = s .sweep-columns .ensures ∙ ap (λ (g : List Float). columnsSwept (A .strikes) (A .expiries) g) (r .sweep-rows .ensures) in
+    record { answers = rw e; grid = rw e w }
 
 pub fill-gaps-spec : {M : Type 1} → statement M
 fill-gaps-spec =
     tie.close
-    (tie.spec returns returns-2 sweep-rows-requires sweep-columns-requires same-length returns-3)
+    (tie.spec
+    first-requires
+    first-requires-2
+    returns
+    sweep-rows-requires
+    sweep-columns-requires
+    same-length
+    returns-2)

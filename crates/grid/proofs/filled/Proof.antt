@@ -1,7 +1,6 @@
 -- `grid::filled`: only a not-a-number differs from itself. Assumes nothing.
 use Rattle.floats.proofs.Signs.{nan-is}
 use Rattle.grid.specs.Gaps.{filled}
-use Prim.Native.Nat.{_-_}
 use Rattle.grid.proofs.filled.Statement.{statement}
 use Rattle.grid.proofs.filled.Tie as tie
 

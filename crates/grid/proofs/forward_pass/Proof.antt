@@ -1,7 +1,7 @@
 -- `grid::forward_pass`: what is done, then the pass over the rest, is the pass over the row. Assumes nothing.
 use Rattle.grid.proofs.Passes.{forward-step, forward-end}
 use Rattle.grid.specs.Gaps.{forward}
-use Prim.Native.Nat.{_+_, _-_, _≤_, _<_}
+use Prim.Native.Nat.{_-_, _≤_, _<_}
 use mathlib.Core.Path.{_≡_, refl, sym, _∙_}
 use mathlib.Core.List.{_++_}
 use lib.ListN.{length, take, drop, length-set}

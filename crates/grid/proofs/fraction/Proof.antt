@@ -1,6 +1,5 @@
 -- `grid::fraction`: the branch that its test chose. Assumes nothing.
 use Rattle.grid.specs.Readings.{fraction}
-use Prim.Native.Nat.{_-_}
 use lib.Ieee.{ofBits, round}
 use borrow.Author.Needs.{needs}
 use Rattle.grid.proofs.fraction.Statement.{statement}

@@ -1,6 +1,5 @@
 -- `grid::gather_swept`: the column, swept. Assumes nothing.
 use Rattle.grid.specs.Gaps.{swept}
-use Prim.Native.Nat.{_-_}
 use mathlib.Core.Path.{_∙_, ap}
 use mathlib.Core.List.{List}
 use lib.Ieee.{Float}

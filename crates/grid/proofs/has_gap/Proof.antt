@@ -1,7 +1,6 @@
 -- `grid::has_gap`: only a not-a-number differs from itself. Assumes nothing.
 use Rattle.grid.specs.Readings.{hasGap}
 use Rattle.floats.proofs.Signs.{nan-is}
-use Prim.Native.Nat.{_-_}
 use Rattle.grid.proofs.has_gap.Statement.{statement}
 use Rattle.grid.proofs.has_gap.Tie as tie
 

@@ -30,7 +30,9 @@ returns c =
     let P = c .before .before .before .before .pre in
     let u : 0 < A .n = P .0 in
     let v : A .n - 1 < A .n = omega arith in
-    rw (length-take-le (A .n) (A .axis .now) (P .1), getD-take (A .n) (A .axis .now) 0 nan u, getD-take (A .n) (A .axis .now) (A .n - 1) nan v) (c .in-range .ensures)
+    let lo = getD-take (A .n) (A .axis .now) 0 nan u in
+    let hi = getD-take (A .n) (A .axis .now) (A .n - 1) nan v in
+    rw (length-take-le (A .n) (A .axis .now) (P .1), lo, hi) (c .in-range .ensures)
 
 pub inside-spec : {M : Type 1} → statement M
 inside-spec =

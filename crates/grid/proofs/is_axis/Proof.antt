@@ -55,7 +55,8 @@ loop-less c = omega arith
 loop-again : tie.Need-loop-again Inv-loop μ-loop
 loop-again c =
     let I = c .before .before .before .before .loop .inv in
-    (omega arith, I .1, ascent-on _ _ _ _ (I .1) _ (c .before .before .before .loop-test .taken) (sym (c .before .rises .ensures) ∙ not-false _ (c .if3 .left)) (I .2))
+    let r = sym (c .before .rises .ensures) ∙ not-false _ (c .if3 .left) in
+    (omega arith, I .1, ascent-on _ _ _ _ (I .1) _ (c .before .before .before .loop-test .taken) r (I .2))
 
 returns-4 : tie.Need-returns-4 Inv-loop μ-loop
 returns-4 c = let I = c .before .loop .inv in ascent-end _ _ _ _ (I .1) _ (c .loop-test .left) (I .2)

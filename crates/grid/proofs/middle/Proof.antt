@@ -1,6 +1,5 @@
 -- `grid::middle`: past the end of the axis there is no value. Assumes nothing.
 use lib.ListN.{List·getD-eq-default}
-use Prim.Native.Nat.{_-_}
 use mathlib.Core.Path.{sym, _∙_}
 use lib.Ieee.{nan}
 use borrow.Author.Needs.{needs}

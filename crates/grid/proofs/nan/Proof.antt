@@ -1,5 +1,4 @@
 -- `grid::nan`: 0.0 / 0.0. Assumes nothing.
-use Prim.Native.Nat.{_-_}
 use mathlib.Core.Path.{refl}
 use lib.Ieee.{ofBits, div}
 use Rattle.grid.proofs.nan.Statement.{statement}

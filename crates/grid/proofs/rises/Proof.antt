@@ -1,5 +1,4 @@
 -- `grid::rises`: finite, and then above. Assumes nothing.
-use Prim.Native.Nat.{_-_}
 use borrow.Author.Needs.{needs}
 use Rattle.grid.proofs.rises.Statement.{statement}
 use Rattle.grid.proofs.rises.Tie as tie

@@ -9,7 +9,8 @@ use Rattle.grid.proofs.scatter.Statement.{statement}
 use Rattle.grid.proofs.scatter.Tie as tie
 
 abbrev Inv-loop : tie.InvT-loop
-Inv-loop grid₀ cells j n i₀ grid i = (i ≤ n) × (n ≡ length cells) × (length grid ≡ length grid₀) × (putColumn j i (drop i cells) grid ≡ putColumn j 0 cells grid₀)
+Inv-loop grid₀ cells j n i₀ grid i =
+    (i ≤ n) × (n ≡ length cells) × (length grid ≡ length grid₀) × (putColumn j i (drop i cells) grid ≡ putColumn j 0 cells grid₀)
 
 abbrev μ-loop : tie.MeasureT-loop
 μ-loop grid₀ cells j n i₀ grid i = n - i

@@ -1,6 +1,5 @@
 -- `grid::sweep`: the forward pass, then the backward pass. Assumes nothing.
 use Rattle.grid.specs.Gaps.{backward, forward}
-use Prim.Native.Nat.{_-_}
 use borrow.Author.Needs.{needs}
 use Rattle.grid.proofs.sweep.Statement.{statement}
 use Rattle.grid.proofs.sweep.Tie as tie

@@ -1,5 +1,6 @@
 -- `grid::sweep_rows`: one row more in each round, lent as a part and given back. Assumes nothing.
 use Rattle.grid.proofs.Passes.{rows-step}
+use Rattle.grid.proofs.Rows.{RowWithin, row-within}
 use borrow.Rule.Slice.PartMut.{same-len-mid}
 use Rattle.grid.specs.Gaps.{rowsSwept}
 use Prim.Native.Nat.{_+_, _-_, _*_, _≤_}
@@ -15,27 +16,34 @@ Inv-loop grid₀ strikes expiries i₀ grid i = (i ≤ expiries) × (length grid
 abbrev μ-loop : tie.MeasureT-loop
 μ-loop grid₀ strikes expiries i₀ grid i = expiries - i
 
+abbrev start : tie.In-loop Inv-loop μ-loop → tie.Start Inv-loop μ-loop
+start c = c .before .before .before
+
+-- the row of this round, within the grid
+row : (c : tie.In-loop Inv-loop μ-loop) → RowWithin (c .before .loop .i) (start c .args .strikes)
+row c = let P = start c .pre in row-within _ _ _ (c .loop-test .taken) (P .2) (P .1)
+
 loop-holds : tie.Need-loop-holds Inv-loop μ-loop
 unfolding rowsSwept
 loop-holds c = (omega arith, refl, refl)
 
 mul-a : tie.Need-mul-a Inv-loop μ-loop
-mul-a c = omega arith
+mul-a c = row c .start-fits
 
 add-e : tie.Need-add-e Inv-loop μ-loop
-add-e c = omega arith
+add-e c = row c .end-fits
 
 mul-sweep : tie.Need-mul-sweep Inv-loop μ-loop
-mul-sweep c = omega arith
+mul-sweep c = row c .bytes-fit
 
 sub-sweep : tie.Need-sub-sweep Inv-loop μ-loop
-sub-sweep c = omega arith
+sub-sweep c = row c .ordered
 
 part-sweep-start : tie.Need-part-sweep-start Inv-loop μ-loop
-part-sweep-start c = omega arith
+part-sweep-start c = row c .ordered
 
 part-sweep-end : tie.Need-part-sweep-end Inv-loop μ-loop
-part-sweep-end c = omega arith
+part-sweep-end c = omega (arith, row c .within, start c .pre .0, c .before .loop .inv .1)
 
 sweep-requires : tie.Need-sweep-requires Inv-loop μ-loop
 sweep-requires c κs = tt
@@ -48,19 +56,22 @@ loop-less c = omega arith
 
 loop-again : tie.Need-loop-again Inv-loop μ-loop
 loop-again c =
-    let I = c .before .before .before .before .before .loop .inv in
     let F = c .before .before .sweep in
-    let A = c .before .before .before .before .before .before .before .args in
-    let i = c .before .before .before .before .before .loop .i in
-    let k = 64 * i + A .strikes - 64 * i in
-    let e : k ≡ A .strikes = omega arith in
-    (omega arith, same-len-mid (64 * i) k (c .before .before .before .before .before .loop .grid) (F .last .0) (F .kept .0) ∙ I .1, rows-step _ _ _ _ _ _ e (I .2) (F .ensures))
+    let t = c .before .before .before .before in
+    let at = t .before .loop in
+    let k = 64 * at .i + start t .args .strikes - 64 * at .i in (
+      omega (arith, t .loop-test .taken),
+      same-len-mid (64 * at .i) k (at .grid) (F .last .0) (F .kept .0) ∙ at .inv .1,
+      rows-step _ _ _ _ _ _ (row t .width) (at .inv .2) (F .ensures),
+    )
 
 same-length : tie.Need-same-length Inv-loop μ-loop
 same-length c = c .before .loop .inv .1
 
 returns : tie.Need-returns Inv-loop μ-loop
-returns c = let E : c .before .loop .i ≡ c .before .before .before .args .expiries = omega arith in rw E at (c .before .loop .inv .2)
+returns c =
+    let e : c .before .loop .i ≡ c .before .before .before .args .expiries = omega arith in
+    (rw e at (c .before .loop .inv .2))
 
 pub sweep-rows-spec : {M : Type 1} → statement M
 sweep-rows-spec =

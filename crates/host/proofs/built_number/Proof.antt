@@ -1,5 +1,4 @@
 -- `host::built_number`: an arm for each case. Assumes nothing.
-use Rattle.host.specs.Answers.{numberOf}
 use borrow.Author.Needs.{needs}
 use Rattle.host.proofs.built_number.Statement.{statement}
 use Rattle.host.proofs.built_number.Tie as tie
@@ -11,11 +10,9 @@ enum-known-built : tie.Need-enum-known-built
 enum-known-built c = search needs
 
 returns : tie.Need-returns
-unfolding numberOf
 returns c = simp (c .enum-told .given .1)
 
 returns-2 : tie.Need-returns-2
-unfolding numberOf
 returns-2 c = simp (c .before .built .given .1)
 
 pub built-number-spec : {M : Type 1} → statement M

@@ -1,6 +1,5 @@
 -- `host::greeks_values`: an arm for each case. Assumes nothing.
 use Rattle.greeks.specs.Checks.{outcomeOfGreeks}
-use Rattle.host.specs.Answers.{valuesOf}
 use borrow.Author.Needs.{needs}
 use Rattle.host.proofs.greeks_values.Statement.{statement}
 use Rattle.host.proofs.greeks_values.Tie as tie
@@ -15,11 +14,11 @@ no-greeks-requires : tie.Need-no-greeks-requires
 no-greeks-requires c κs = search needs
 
 returns : tie.Need-returns
-unfolding valuesOf outcomeOfGreeks
+unfolding outcomeOfGreeks
 returns c = simp (c .before .answer .given .1)
 
 returns-2 : tie.Need-returns-2
-unfolding valuesOf outcomeOfGreeks
+unfolding outcomeOfGreeks
 returns-2 c = simp (c .no-greeks .ensures, c .before .enum-told .given .1)
 
 pub greeks-values-spec : {M : Type 1} → statement M

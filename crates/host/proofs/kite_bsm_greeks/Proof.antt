@@ -23,7 +23,8 @@ returns : tie.Need-returns
 returns c =
     let a = c .before .before .before .bsm-greeks in
     let e = rw (c .before .before .before .before .option-of .ensures) at (a .ensures) in
-    told-over (outcomeOfGreeks (a .result)) _ e (numbered-sensitivities _) greeksEntries _ _ (c .greeks-number .ensures) (ap greeksEntries (c .before .before .greeks-values .ensures))
+    told-over (outcomeOfGreeks (a .result)) _ e (numbered-sensitivities _) greeksEntries _ _ (c .greeks-number .ensures)
+    (ap greeksEntries (c .before .before .greeks-values .ensures))
 
 pub kite-bsm-greeks-spec : {M : Type 1} → statement M
 kite-bsm-greeks-spec =

@@ -2,12 +2,16 @@
 use mathlib.Core.Path.{ap, _∙_}
 use Rattle.chart.specs.Build.{outcome}
 use Rattle.chart.specs.declared.Built.{Built}
-use Rattle.host.specs.Answers.{numberOf}
+use Rattle.limits.specs.Outcome.{numberOf}
 use Rattle.host.specs.Calls.{lengthsOf, totalsOf}
 use Rattle.host.proofs.Lending.{quotes}
 use borrow.Author.Needs.{needs}
 use Rattle.host.proofs.kite_quote_tray.Statement.{statement}
 use Rattle.host.proofs.kite_quote_tray.Tie as tie
+
+-- ---- places
+abbrev quoted : tie.After-book-of → tie.After-quote-tray
+quoted c = c .before .before .before .before .before .before .before .before .before .before .before .before .before .before .before .before .before
 
 quote-tray-requires : tie.Need-quote-tray-requires
 quote-tray-requires c κs = search needs
@@ -53,10 +57,11 @@ same-length-9 c = search needs
 
 returns : tie.Need-returns
 returns c =
-    let t = c .before .before .before .before .before .before .before .before .before .before .before .before .before .before .before .before .before .before .before .before .before .before .before .quote-tray in
+    let k = c .before .before .before .before in
+    let t = quoted k .quote-tray in
     let b = c .before .before .before .built-of .ensures in
     quotes _ _ _ (t .result) _ _ _ _ (t .ensures) (c .built-number .ensures ∙ ap (λ (x : Built). numberOf (outcome x)) b)
-    (ap totalsOf (c .before .before .before .before .book-of .ensures)) (c .before .built-lengths .ensures ∙ ap lengthsOf b)
+    (ap totalsOf (k .book-of .ensures)) (c .before .built-lengths .ensures ∙ ap lengthsOf b)
 
 pub kite-quote-tray-spec : {M : Type 1} → statement M
 kite-quote-tray-spec =

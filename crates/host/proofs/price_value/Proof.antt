@@ -1,7 +1,6 @@
 -- `host::price_value`: an arm for each case. Assumes nothing.
 use lib.Ieee.{round, ofBits}
 use Rattle.greeks.specs.Checks.{outcomeOfPrice}
-use Rattle.host.specs.Answers.{valuesOf}
 use borrow.Author.Needs.{needs}
 use Rattle.host.proofs.price_value.Statement.{statement}
 use Rattle.host.proofs.price_value.Tie as tie
@@ -13,11 +12,11 @@ enum-told : tie.Need-enum-told
 enum-told c = search needs
 
 returns : tie.Need-returns
-unfolding valuesOf outcomeOfPrice round ofBits
+unfolding outcomeOfPrice round ofBits
 returns c = simp (c .before .answer .given .1)
 
 returns-2 : tie.Need-returns-2
-unfolding valuesOf outcomeOfPrice round ofBits
+unfolding outcomeOfPrice round ofBits
 returns-2 c = simp (c .enum-told .given .1)
 
 pub price-value-spec : {M : Type 1} → statement M

@@ -1,6 +1,5 @@
 -- `host::reading_value`: an arm for each case. Assumes nothing.
 use lib.Ieee.{round, ofBits}
-use Rattle.host.specs.Answers.{valuesOf}
 use borrow.Author.Needs.{needs}
 use Rattle.host.proofs.reading_value.Statement.{statement}
 use Rattle.host.proofs.reading_value.Tie as tie
@@ -12,11 +11,11 @@ enum-told : tie.Need-enum-told
 enum-told c = search needs
 
 returns : tie.Need-returns
-unfolding valuesOf round ofBits
+unfolding round ofBits
 returns c = simp (c .before .answer .given .1)
 
 returns-2 : tie.Need-returns-2
-unfolding valuesOf round ofBits
+unfolding round ofBits
 returns-2 c = simp (c .enum-told .given .1)
 
 pub reading-value-spec : {M : Type 1} → statement M

@@ -1,5 +1,5 @@
 -- `lines::begun`: a line of which bytes came is one. Assumes nothing.
-use mathlib.Core.Path.{_≡_, refl, sym, ap, _∙_}
+use mathlib.Core.Path.{sym}
 use borrow.Author.Needs.{needs}
 use Rattle.lines.proofs.Lengths.{begun-none, begun-some}
 use Rattle.lines.proofs.begun.Statement.{statement}

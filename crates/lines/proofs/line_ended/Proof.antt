@@ -1,16 +1,29 @@
 -- `lines::line_ended`: the frame of the line is heard, and its answer put behind the text. Assumes nothing.
-use borrow.Author.Needs.{needs}
-use Rattle.ledger.specs.Book.{columns}
+use Rattle.ledger.specs.Book.{columnsOf}
 use Rattle.lines.specs.Moves.{place}
-use Rattle.lines.proofs.Going.{goes-ended}
+use Rattle.lines.proofs.Going.{line-ended}
+use borrow.Author.Needs.{needs}
 use Rattle.lines.proofs.line_ended.Statement.{statement}
 use Rattle.lines.proofs.line_ended.Tie as tie
+
+-- ---- places
+abbrev entry : tie.After-line-frame → tie.Start
+entry c = c .before .before .before .before .before
+
+abbrev asked : tie.After-hear → tie.After-asked-by
+asked c = c .before .before .before .before
+
+abbrev heard : tie.After-answer-line → tie.After-hear
+heard c = c .before .before .before .before .before .before .before
 
 add-to : tie.Need-add-to
 add-to c = search needs
 
 line-frame-requires : tie.Need-line-frame-requires
 line-frame-requires c κs = search needs
+
+asked-by-requires : tie.Need-asked-by-requires
+asked-by-requires c κs = search needs
 
 hear-requires : tie.Need-hear-requires
 hear-requires c κs = search needs
@@ -41,8 +54,16 @@ same-length-4 c = search needs
 
 returns : tie.Need-returns
 returns c =
-    let a = c .before .before .before .before .before .before .before .before .before .before .before .before .before .before .before .before .before .before .before .before .before .before .before .args in
-    goes-ended (place (a .p) (columns (a .strikes .now) (a .expiries .now) (a .volatilities .now)) (a .out .now)) _ (c .before .before .before .before .before .before .before .before .before .before .before .before .before .before .hear .result) _ _ _ _ (c .before .before .before .before .before .before .before .before .before .before .before .before .before .before .before .before .before .before .line-frame .ensures) (c .before .before .before .before .before .before .before .before .before .before .before .before .before .before .hear .ensures) (c .before .before .before .before .before .before .before .answer-line .ensures) (c .before .before .before .before .put .ensures) (c .no-line .ensures) (c .before .before .before .before .before .before .before .before .before .before .before .before .before .before .before .before .before .before .before .before .before .before .before .pre)
+    let w = c .before .before .before .before in
+    let t = w .before .before .before in
+    let h = heard t in
+    let q = asked h in
+    let f = q .before in
+    let a = entry f .args in
+    line-ended (place (a .p) (columnsOf (a .strikes .now) (a .expiries .now) (a .volatilities .now)) (a .out .now)) (f .line-frame .result)
+    (q .asked-by .result) (h .hear .result) _
+    (t .answer-line .result) _ _ (f .line-frame .ensures) (q .asked-by .ensures) (h .hear .ensures) (t .answer-line .ensures) (w .put .ensures)
+    (c .no-line .ensures) (entry f .pre)
 
 pub line-ended-spec : {M : Type 1} → statement M
 line-ended-spec =
@@ -50,6 +71,7 @@ line-ended-spec =
     (tie.spec
     add-to
     line-frame-requires
+    asked-by-requires
     hear-requires
     answer-line-requires
     slice-aggregate-put

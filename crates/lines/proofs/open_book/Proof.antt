@@ -1,10 +1,8 @@
 -- `lines::open_book`: an arm for each case of the opening's answer. Assumes nothing.
-use mathlib.Core.Path.{_≡_, sym, ap, _∙_}
 use lib.Ieee.{ofBits, round}
 use borrow.Author.Needs.{needs}
-use Rattle.limits.specs.Outcome.{Outcome, done, refused}
 use Rattle.ledger.specs.Book.{outcomeOfOpening}
-use Rattle.lines.specs.Hear.{said, opens, bookOf}
+use Rattle.lines.specs.Hear.{said, opens}
 use Rattle.lines.proofs.open_book.Statement.{statement}
 use Rattle.lines.proofs.open_book.Tie as tie
 use Rattle.lines.proofs.open_book.Reads as reads
@@ -21,11 +19,11 @@ enum-known-opened-2 : tie.Need-enum-known-opened-2
 enum-known-opened-2 c = search needs
 
 returns : tie.Need-returns
-unfolding said opens bookOf outcomeOfOpening ofBits round
+unfolding said opens outcomeOfOpening ofBits round
 returns c l = rw (← c .before .before .before .«open» .ensures, c .before .opened .given .1)
 
 returns-2 : tie.Need-returns-2
-unfolding said opens bookOf outcomeOfOpening ofBits round
+unfolding said opens outcomeOfOpening ofBits round
 returns-2 c l = rw (← c .before .before .before .«open» .ensures, c .before .opened2 .given .1)
 
 pub open-book-spec : {M : Type 1} → statement M

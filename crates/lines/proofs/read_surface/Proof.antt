@@ -1,12 +1,23 @@
 -- `lines::read_surface`: the build's answer decides whether the grid is read. Assumes nothing.
-use mathlib.Core.Path.{_≡_, sym, ap, _∙_}
 use lib.Ieee.{ofBits, round}
 use borrow.Author.Needs.{needs}
-use Rattle.ledger.specs.Book.{columns}
+use Rattle.ledger.specs.Book.{columnsOf}
+use Rattle.ledger.specs.Claim.{Ledger}
 use Rattle.lines.specs.Hear.{ledger}
 use Rattle.lines.proofs.Hearing.{built-and-read, not-built}
 use Rattle.lines.proofs.read_surface.Statement.{statement}
 use Rattle.lines.proofs.read_surface.Tie as tie
+
+-- ---- places
+abbrev entry : tie.After-build → tie.Start
+entry c = c .before .before .before .before .before .before .before .before
+
+abbrev built : tie.After-interpolate → tie.After-build
+built c = c .before .before .before .before .before .before .before .before .before .before .before
+
+-- the record and the columns at entry
+abbrev l : tie.After-build → Ledger
+l c = let a = entry c .args in ledger (a .book) (columnsOf (a .strikes .now) (a .expiries .now) (a .volatilities .now))
 
 slice-aggregate-build : tie.Need-slice-aggregate-build
 slice-aggregate-build c = search needs
@@ -47,15 +58,18 @@ enum-known-built-2 c = search needs
 returns : tie.Need-returns
 unfolding ofBits round
 returns c =
-    let a = c .before .before .before .before .before .before .before .before .before .before .before .before .before .before .before .before .before .before .before .before .args in
-    built-and-read (ledger (a .book) (columns (a .strikes .now) (a .expiries .now) (a .volatilities .now))) (a .strike) (a .expiry) _ _ (c .before .before .before .before .before .before .before .before .before .before .before .before .build .ensures) _ _ (c .before .interpolate .result) _
-    (c .before .before .before .before .before .before .built .given .1) (c .before .interpolate .ensures) (c .reading-said .ensures)
+    let r = c .before in
+    let b = built r in
+    let a = entry b .args in
+    built-and-read (l b) (a .strike) (a .expiry) (b .build .result) _ (b .build .ensures) _ _ (r .interpolate .result) (c .reading-said .result)
+    (r .before .before .before .before .before .built .given .1) (r .interpolate .ensures) (c .reading-said .ensures)
 
 returns-2 : tie.Need-returns-2
 unfolding ofBits round
 returns-2 c =
-    let a = c .before .before .before .before .before .before .before .before .before .before .before .before .before .before .before .args in
-    not-built (ledger (a .book) (columns (a .strikes .now) (a .expiries .now) (a .volatilities .now))) (a .strike) (a .expiry) _ _ (c .before .before .before .before .before .before .before .build .ensures) _ (c .before .built2 .given .1)
+    let b = c .before .before .before .before .before .before .before in
+    let a = entry b .args in
+    not-built (l b) (a .strike) (a .expiry) (b .build .result) _ (b .build .ensures) _ (c .before .built2 .given .1)
 
 pub read-surface-spec : {M : Type 1} → statement M
 read-surface-spec =

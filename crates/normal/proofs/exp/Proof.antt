@@ -11,7 +11,9 @@ use mir.Syntax.{w64}
 use mir.Val.{toZ, ofZ, SFits}
 use mir.ValLaws.{toZ-ofZ}
 use Rattle.normal.specs.Exp.{scaled, exp, expAt, floor}
+use Rattle.normal.specs.Tables.{E}
 use Rattle.normal.specs.Steps.{inExponent}
+use Rattle.normal.proofs.Table.{entries, polynomial-of}
 use Rattle.normal.proofs.Floors.{few-in-float}
 use Rattle.normal.proofs.Scaled.{InRange, in-range, range-small, range-exponent}
 use Rattle.normal.proofs.exp.Statement.{statement}
@@ -46,8 +48,11 @@ floor-requires : tie.Need-floor-requires
 unfolding ofBits round
 floor-requires c κs = range-small _ (t-range c)
 
-horner-e-requires : tie.Need-horner-e-requires
-horner-e-requires c κs = search needs
+slice-aggregate-horner : tie.Need-slice-aggregate-horner
+slice-aggregate-horner c = refl
+
+horner-requires : tie.Need-horner-requires
+horner-requires c κs = search needs
 
 small-fits : (k : ℤ) → T (inExponent k) → SFits w64 k
 small-fits (pos n) h = let l = ltb→lt n 1024 h in record { sfits = omega arith }
@@ -69,19 +74,19 @@ int-to-float-f c = rw (back (c .before)) (exponent-in-float _ (range-exponent _ 
 
 two-to-requires : tie.Need-two-to-requires
 two-to-requires c κs =
-    let a = c .before .before in
+    let a = c .before .before .before in
     subst (λ (z : ℤ). T (inExponent z)) (sym (back a)) (range-exponent _ (t-range (a .before)))
 
 returns-4 : tie.Need-returns-4
-unfolding exp expAt ofBits neg round lt
+unfolding exp expAt ofBits neg round lt E entries
 returns-4 c =
-    let f = c .before .before .before in
+    let f = c .before .before .before .before in
     let a = f .before in
     rw (
       no-nan (a .before .before .before .args .v) (a .before .before .if1 .left),
       a .before .if2 .left,
       a .if3 .left,
-      c .before .horner-e .ensures,
+      c .before .horner .ensures ∙ polynomial-of E 13 _ refl _,
       c .two-to .ensures,
       back f,
     )
@@ -89,4 +94,4 @@ returns-4 c =
 pub exp-spec : {M : Type 1} → statement M
 exp-spec =
     tie.close
-    (tie.spec returns returns-2 returns-3 floor-requires int-to-float-f horner-e-requires two-to-requires returns-4)
+    (tie.spec returns returns-2 returns-3 floor-requires int-to-float-f slice-aggregate-horner horner-requires two-to-requires returns-4)

@@ -30,12 +30,14 @@ add-result-3 c = search needs
 float-from-bits-result : tie.Need-float-from-bits-result
 float-from-bits-result c =
     let a = c .before in
-    half-no-nan (a .args .t) (c .root .result) (a .pre .0) (a .pre .1) (c .root .ensures .0) (c .root .ensures .1) ((a .args .z + 969) / 2) (field-lt (a .args .z) (a .pre .2))
+    half-no-nan (a .args .t) (c .root .result) (a .pre .0) (a .pre .1) (c .root .ensures .0) (c .root .ensures .1) ((a .args .z + 969) / 2)
+    (field-lt (a .args .z) (a .pre .2))
 
 returns : tie.Need-returns
 returns c =
     let a = c .before in
-    half-bits (a .args .t) (c .root .result) (a .pre .0) (a .pre .1) (c .root .ensures .0) (c .root .ensures .1) ((a .args .z + 969) / 2) (field-lt (a .args .z) (a .pre .2))
+    half-bits (a .args .t) (c .root .result) (a .pre .0) (a .pre .1) (c .root .ensures .0) (c .root .ensures .1) ((a .args .z + 969) / 2)
+    (field-lt (a .args .z) (a .pre .2))
 
 pub halved-root-spec : {M : Type 1} → statement M
 halved-root-spec = tie.close (tie.spec root-requires add-result add-result-2 mul-result add-result-3 float-from-bits-result returns)

@@ -1,6 +1,6 @@
 -- `normal::leading`: with i pairs of digits to come, q * q + rem is t without its last 2i digits (Squares). Assumes nothing.
 use mathlib.Core.Path.{_≡_, sym, ap, _∙_}
-use Prim.Native.Nat.{ℕ, _+_, _-_, _*_, _/_, _%_, _^_, _≤_, _<_}
+use Prim.Native.Nat.{ℕ, _+_, _-_, _*_, _/_, _%_, _^_, _≤_}
 use native.Mathlib.Omega.{arith}
 use native.Mathlib.Nat.{div-one}
 use Rattle.normal.proofs.Squares.{below-60, all-shifted, digit, shrunk-lt}

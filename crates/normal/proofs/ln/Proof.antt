@@ -83,7 +83,9 @@ held c = subst T (sym (c .good .0 .1)) tt
 
 is-pos : (c : tie.Else4) → T (positive (c .before .before .before .before .args .v))
 unfolding ofBits round
-is-pos c = is-positive (c .before .before .before .before .args .v) (c .before .before .before .if1 .left) (c .before .before .if2 .left) (c .before .if3 .left) (c .if4 .left)
+is-pos c =
+    is-positive (c .before .before .before .before .args .v) (c .before .before .before .if1 .left) (c .before .before .if2 .left) (c .before .if3 .left)
+    (c .if4 .left)
 
 returns : tie.Need-returns
 returns c = at-nan (c .before .args .v) (differs-from-itself (c .before .args .v) (subst T (sym (c .if1 .taken)) tt))
@@ -104,7 +106,8 @@ taken-apart-requires : tie.Need-taken-apart-requires
 taken-apart-requires c κs = is-pos c
 
 mant : (c : tie.After-taken-apart) → ofBits binary64 (c .taken-apart .result .digits + 4602678819172646912) ≡ mantissa (start c .args .v)
-mant c = mant-is (start c .args .v) (c .taken-apart .result .digits) (c .taken-apart .result .size) (held (start c)) (is-pos (c .before)) (c .taken-apart .ensures)
+mant c =
+    mant-is (start c .args .v) (c .taken-apart .result .digits) (c .taken-apart .result .size) (held (start c)) (is-pos (c .before)) (c .taken-apart .ensures)
 
 add-ln-from : tie.Need-add-ln-from
 add-ln-from c = omega (arith, c .taken-apart .ensures .high)
@@ -141,4 +144,15 @@ returns-5 c =
 pub ln-spec : {M : Type 1} → statement M
 ln-spec =
     tie.close
-    (tie.spec returns returns-2 returns-3 returns-4 taken-apart-requires add-ln-from float-from-bits-ln-from cast-ln-from sub-ln-from ln-from-requires returns-5)
+    (tie.spec
+    returns
+    returns-2
+    returns-3
+    returns-4
+    taken-apart-requires
+    add-ln-from
+    float-from-bits-ln-from
+    cast-ln-from
+    sub-ln-from
+    ln-from-requires
+    returns-5)

@@ -1,6 +1,6 @@
 -- `normal::root`: after n rounds q * q + rem is t * 4^n (Squares). Assumes nothing.
 use mathlib.Core.Path.{_≡_, sym, ap, _∙_}
-use Prim.Native.Nat.{ℕ, _+_, _-_, _*_, _^_, _≤_, _<_}
+use Prim.Native.Nat.{ℕ, _+_, _-_, _*_, _^_, _≤_}
 use native.Mathlib.Omega.{arith}
 use native.Mathlib.Nat.{mul-one, add-zero}
 use borrow.Author.Needs.{needs}

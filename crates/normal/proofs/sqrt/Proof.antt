@@ -9,7 +9,7 @@ use lib.Ieee.{Float, nan, inf, fin, binary64, fits, ofBits, div, size, round}
 use lib.Ieee.Compare.{differs-from-itself}
 use lib.Ieee.Positive.{positive}
 use Rattle.floats.proofs.Signs.{Negative, Zero, is-negative, is-zero, is-infinity, is-positive}
-use Rattle.floats.specs.Wholes.{units}
+use Rattle.floats.specs.Wholes.{unitsOf}
 use Rattle.normal.specs.Root.{SquareRoot, NearestRoot, sqrt, rootOfUnits, halfRoot}
 use Rattle.normal.proofs.Squares.{under-even, under-odd}
 use Rattle.normal.proofs.Nearest.{at-positive, nearest-root}
@@ -39,12 +39,12 @@ at-zero (fin s zero e) n = refl
 at-zero (fin s (suc m) e) n = absurd n
 
 -- the digits t stand under the root
-at-digits : (v : Float) (t z : ℕ) → T (positive v) → z ≡ size (units v) → units v * 2 ^ 1076 / 2 ^ (2 * ((z + 969) / 2)) ≡ t * 18014398509481984
+at-digits : (v : Float) (t z : ℕ) → T (positive v) → z ≡ size (unitsOf v) → unitsOf v * 2 ^ 1076 / 2 ^ (2 * ((z + 969) / 2)) ≡ t * 18014398509481984
     → halfRoot (t * 18014398509481984) ((z + 969) / 2) ≡ sqrt v
 unfolding rootOfUnits
 at-digits v t z p e u =
     ap (λ (x : ℕ). halfRoot x ((z + 969) / 2)) (sym u)
-    ∙ ap (λ (x : ℕ). halfRoot (units v * 2 ^ 1076 / 2 ^ (2 * ((x + 969) / 2))) ((x + 969) / 2)) e
+    ∙ ap (λ (x : ℕ). halfRoot (unitsOf v * 2 ^ 1076 / 2 ^ (2 * ((x + 969) / 2))) ((x + 969) / 2)) e
     ∙ at-positive v p
 
 -- both parts of the contract, from the first
@@ -56,22 +56,32 @@ held c = subst T (sym (c .good .0 .1)) tt
 
 is-pos : (c : tie.Else4) → T (positive (c .before .before .before .before .args .v))
 unfolding ofBits round
-is-pos c = is-positive (c .before .before .before .before .args .v) (c .before .before .before .if1 .left) (c .before .before .if2 .left) (c .before .if3 .left) (c .if4 .left)
+is-pos c =
+    is-positive (c .before .before .before .before .args .v) (c .before .before .before .if1 .left) (c .before .before .if2 .left) (c .before .if3 .left)
+    (c .if4 .left)
 
 returns : tie.Need-returns
-returns c = both (c .before .args .v) (c .before .args .v) (held (c .before)) (at-nan (c .before .args .v) (differs-from-itself (c .before .args .v) (subst T (sym (c .if1 .taken)) tt)))
+returns c =
+    both (c .before .args .v) (c .before .args .v) (held (c .before))
+    (at-nan (c .before .args .v) (differs-from-itself (c .before .args .v) (subst T (sym (c .if1 .taken)) tt)))
 
 returns-2 : tie.Need-returns-2
 unfolding div ofBits round
-returns-2 c = both (c .before .before .args .v) nan (held (c .before .before)) (at-negative (c .before .before .args .v) (is-negative (c .before .before .args .v) (c .if2 .taken)))
+returns-2 c =
+    both (c .before .before .args .v) nan (held (c .before .before))
+    (at-negative (c .before .before .args .v) (is-negative (c .before .before .args .v) (c .if2 .taken)))
 
 returns-3 : tie.Need-returns-3
 unfolding ofBits round
-returns-3 c = both (c .before .before .before .args .v) (c .before .before .before .args .v) (held (c .before .before .before)) (at-zero (c .before .before .before .args .v) (is-zero (c .before .before .before .args .v) (c .if3 .taken)))
+returns-3 c =
+    both (c .before .before .before .args .v) (c .before .before .before .args .v) (held (c .before .before .before))
+    (at-zero (c .before .before .before .args .v) (is-zero (c .before .before .before .args .v) (c .if3 .taken)))
 
 returns-4 : tie.Need-returns-4
 unfolding ofBits round
-returns-4 c = both (c .before .before .before .before .args .v) (c .before .before .before .before .args .v) (held (c .before .before .before .before)) (at-inf (c .before .before .before .before .args .v) (is-infinity (c .before .before .before .before .args .v) (c .if4 .taken)))
+returns-4 c =
+    both (c .before .before .before .before .args .v) (c .before .before .before .before .args .v) (held (c .before .before .before .before))
+    (at-inf (c .before .before .before .before .args .v) (is-infinity (c .before .before .before .before .args .v) (c .if4 .taken)))
 
 taken-apart-requires : tie.Need-taken-apart-requires
 taken-apart-requires c κs = is-pos c
@@ -92,7 +102,8 @@ returns-5 c =
     let d = a .taken-apart .result .digits in
     let z = a .taken-apart .result .size in
     both v (c .halved-root .result) (held (a .before .before .before .before .before)) (c .halved-root .ensures
-    ∙ at-digits v (2 * d) z (is-pos (a .before)) (a .taken-apart .ensures .places) (under-even (units v) d z (a .taken-apart .ensures .value) (c .before .if5 .taken)))
+    ∙ at-digits v (2 * d) z (is-pos (a .before)) (a .taken-apart .ensures .places)
+    (under-even (unitsOf v) d z (a .taken-apart .ensures .value) (c .before .if5 .taken)))
 
 returns-6 : tie.Need-returns-6
 returns-6 c =
@@ -101,7 +112,8 @@ returns-6 c =
     let d = a .taken-apart .result .digits in
     let z = a .taken-apart .result .size in
     both v (c .halved-root2 .result) (held (a .before .before .before .before .before)) (c .halved-root2 .ensures
-    ∙ at-digits v d z (is-pos (a .before)) (a .taken-apart .ensures .places) (under-odd (units v) d z (a .taken-apart .ensures .value) (c .before .if5 .left)))
+    ∙ at-digits v d z (is-pos (a .before)) (a .taken-apart .ensures .places)
+    (under-odd (unitsOf v) d z (a .taken-apart .ensures .value) (c .before .if5 .left)))
 
 pub sqrt-spec : {M : Type 1} → statement M
 sqrt-spec =

@@ -6,12 +6,10 @@ use Rattle.replay.proofs.main.Statement.{statement}
 use Rattle.replay.proofs.main.Tie as tie
 
 abbrev Inv-loop : tie.InvT-loop
-Inv-loop strikes₀ expiries₀ volatilities₀ strike-axis₀ expiry-axis₀ grid₀ counts₀ cells₀ right₀ wrong₀ state₀ number₀ strikes expiries volatilities strike-axis expiry-axis grid counts cells right wrong state number =
-    number ≤ 100000
+Inv-loop _ _ _ _ _ _ _ _ _ _ _ _ _ _ _ _ _ _ _ _ _ _ _ number = number ≤ 100000
 
 abbrev μ-loop : tie.MeasureT-loop
-μ-loop strikes₀ expiries₀ volatilities₀ strike-axis₀ expiry-axis₀ grid₀ counts₀ cells₀ right₀ wrong₀ state₀ number₀ strikes expiries volatilities strike-axis expiry-axis grid counts cells right wrong state number =
-    100000 - number
+μ-loop _ _ _ _ _ _ _ _ _ _ _ _ _ _ _ _ _ _ _ _ _ _ _ number = 100000 - number
 
 loop-holds : tie.Need-loop-holds Inv-loop μ-loop
 loop-holds c = omega arith

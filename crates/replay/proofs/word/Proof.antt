@@ -1,6 +1,5 @@
 -- `replay::word`: the index stays below 17 * at + 17, inside the line. Assumes nothing.
-use Prim.Native.Nat.{_≤_, _-_, _+_, _*_}
-use mathlib.Core.Path.{_≡_, refl}
+use Prim.Native.Nat.{_≤_, _-_}
 use native.Mathlib.Omega.{arith}
 use borrow.Author.Needs.{needs}
 use Rattle.replay.proofs.word.Statement.{statement}

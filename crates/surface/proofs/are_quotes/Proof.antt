@@ -1,6 +1,6 @@
 -- `surface::are_quotes`: the quotes passed are in range, so the rest decides. Assumes nothing.
 use Rattle.chart.proofs.Kept.{range-on, range-stop, range-end}
-use Rattle.chart.specs.Quotes.{quotes, allInRange}
+use Rattle.chart.specs.Quotes.{Columns, columnsOf, quotes, allInRange}
 use borrow.Author.Tests.{not-true, not-false}
 use Prim.Native.Nat.{_-_, _≤_}
 use mathlib.Core.Path.{_≡_, refl, sym, _∙_}
@@ -10,7 +10,9 @@ use Rattle.surface.proofs.are_quotes.Statement.{statement}
 use Rattle.surface.proofs.are_quotes.Tie as tie
 
 abbrev Inv-loop : tie.InvT-loop
-Inv-loop strikes expiries volatilities n i₀ i = (i ≤ n) × (allInRange (drop i (quotes n strikes expiries volatilities)) ≡ allInRange (quotes n strikes expiries volatilities))
+Inv-loop strikes expiries volatilities n i₀ i =
+    let c = columnsOf strikes expiries volatilities in
+    (i ≤ n) × (allInRange (drop i (quotes c n)) ≡ allInRange (quotes c n))
 
 abbrev μ-loop : tie.MeasureT-loop
 μ-loop strikes expiries volatilities n i₀ i = n - i
@@ -39,10 +41,19 @@ shared-slice-read-is-quote-3 c = omega arith
 is-quote-requires : tie.Need-is-quote-requires Inv-loop μ-loop
 is-quote-requires c κs = tt
 
+-- the columns, and what an entry passed or turned down comes to
+abbrev lent : tie.At-loop Inv-loop μ-loop → Columns
+lent c =
+    let A = c .before .before .before .before .args in
+    columnsOf (A .strikes .now) (A .expiries .now) (A .volatilities .now)
+
+abbrev turn : tie.After-is-quote Inv-loop μ-loop → tie.In-loop Inv-loop μ-loop
+turn c = c .before .before .before .before
+
 returns : tie.Need-returns Inv-loop μ-loop
 returns c =
-    let P = c .before .before .before .before .before .before .before .before .before .before .pre in
-    range-stop _ _ _ _ (P .0) (P .1) (P .2) _ _ (c .before .before .before .before .before .loop-test .taken) (sym (c .before .is-quote .ensures) ∙ not-true _ (c .if1 .taken)) (c .before .before .before .before .before .before .loop .inv .1)
+    let t = turn (c .before) in
+    range-stop (lent (t .before)) _ _ _ (t .loop-test .taken) (sym (c .before .is-quote .ensures) ∙ not-true _ (c .if1 .taken)) (t .before .loop .inv .1)
 
 add-i : tie.Need-add-i Inv-loop μ-loop
 add-i c = omega arith
@@ -52,13 +63,12 @@ loop-less c = omega arith
 
 loop-again : tie.Need-loop-again Inv-loop μ-loop
 loop-again c =
-    let P = c .before .before .before .before .before .before .before .before .before .before .pre in
-    (omega arith, range-on _ _ _ _ (P .0) (P .1) (P .2) _ _ (c .before .before .before .before .before .loop-test .taken) (sym (c .before .is-quote .ensures) ∙ not-false _ (c .if1 .left)) (c .before .before .before .before .before .before .loop .inv .1))
+    let t = turn (c .before) in
+    let q = sym (c .before .is-quote .ensures) ∙ not-false _ (c .if1 .left) in
+    (omega arith, range-on (lent (t .before)) _ _ _ (t .loop-test .taken) q (t .before .loop .inv .1))
 
 returns-2 : tie.Need-returns-2 Inv-loop μ-loop
-returns-2 c =
-    let P = c .before .before .before .before .before .pre in
-    range-end _ _ _ _ (P .0) (P .1) (P .2) _ _ (c .loop-test .left) (c .before .loop .inv .1)
+returns-2 c = range-end (lent (c .before)) _ _ _ (c .loop-test .left) (c .before .loop .inv .1)
 
 pub are-quotes-spec : {M : Type 1} → statement M
 are-quotes-spec =

@@ -1,46 +1,50 @@
--- `surface::build_number`: the checks, a line each. Assumes nothing.
-use Rattle.chart.proofs.BuildChecks.{long-columns}
-use Rattle.chart.specs.Build.{refusal}
+-- `surface::build_number`: the checks, a row each. Assumes nothing.
 use Rattle.limits.specs.Checks.{first}
-use borrow.Author.Tests.{lt-ltb, le-ltb, not-true, not-false}
-use Prim.Native.Nat.{_-_}
-use mathlib.Core.Path.{sym, _∙_}
-use lib.ListN.{length}
+use Rattle.chart.specs.Quotes.{Columns, columnsOf, isShort}
+use Rattle.chart.specs.Build.{isWrong}
+use Rattle.chart.proofs.Kept.{long}
+use borrow.Author.Needs.{needs}
+use borrow.Author.Tests.{lt-ltb, le-ltb}
+use mathlib.Core.Path.{_≡_}
+use mathlib.Core.Bool.{false}
 use native.Mathlib.Omega.{arith}
 use Rattle.surface.proofs.build_number.Statement.{statement}
 use Rattle.surface.proofs.build_number.Tie as tie
 
+-- past the test of 1
+abbrev lent : tie.Else1 → Columns
+lent c = let A = c .before .before .before .before .args in columnsOf (A .strikes .now) (A .expiries .now) (A .volatilities .now)
+
+not-short : (c : tie.Else1) → isShort (lent c) ≡ false
+unfolding isShort
+not-short c = c .if1 .left
+
 returns : tie.Need-returns
-unfolding refusal first
+unfolding isShort first
 returns c = simp (c .if1 .taken)
 
 returns-2 : tie.Need-returns-2
-unfolding refusal first
+unfolding isShort isWrong first
 returns-2 c = simp (c .before .if1 .left, lt-ltb _ _ (c .if2 .taken))
 
 are-quotes-requires : tie.Need-are-quotes-requires
 are-quotes-requires c κs =
-    let A = c .before .before .before .before .before .args in
-    omega (arith, long-columns (length (A .strikes .now)) (length (A .expiries .now)) (length (A .volatilities .now)) (c .before .if1 .left))
+    let l = long (lent (c .before)) (not-short (c .before)) in
+    (omega arith, omega arith, omega arith)
+
+first-requires : tie.Need-first-requires
+first-requires c κs = search needs
+
+first-requires-2 : tie.Need-first-requires-2
+first-requires-2 c κs = search needs
 
 returns-3 : tie.Need-returns-3
-unfolding refusal first
+unfolding isWrong first
 returns-3 c =
-    let r = sym (c .before .are-quotes .ensures) ∙ not-true _ (c .if3 .taken) in
-    simp (c .before .before .before .if1 .left, le-ltb _ _ (c .before .before .if2 .left), r)
-
-returns-4 : tie.Need-returns-4
-unfolding refusal first
-returns-4 c =
-    let r = sym (c .before .before .are-quotes .ensures) ∙ not-false _ (c .before .if3 .left) in
-    simp (c .before .before .before .before .if1 .left, le-ltb _ _ (c .before .before .before .if2 .left), r, c .if4 .taken)
-
-returns-5 : tie.Need-returns-5
-unfolding refusal first
-returns-5 c =
-    let r = sym (c .before .before .are-quotes .ensures) ∙ not-false _ (c .before .if3 .left) in
-    simp (c .before .before .before .before .if1 .left, le-ltb _ _ (c .before .before .before .if2 .left), r, c .if4 .left)
+    let past = c .before .before .before in
+    simp (not-short (past .before), le-ltb _ _ (past .if2 .left), c .first2 .ensures, c .before .first .ensures, c .before .before .are-quotes .ensures)
 
 pub build-number-spec : {M : Type 1} → statement M
 build-number-spec =
-    tie.close (tie.spec returns returns-2 are-quotes-requires returns-3 returns-4 returns-5)
+    tie.close
+    (tie.spec returns returns-2 are-quotes-requires first-requires first-requires-2 returns-3)

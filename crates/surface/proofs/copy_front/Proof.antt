@@ -1,7 +1,7 @@
 -- `surface::copy_front`: a loop that copies one value more in each round. Assumes nothing.
 use Rattle.chart.proofs.Gap.{copy-step}
 use lib.Seq.{take-length}
-use Prim.Native.Nat.{_+_, _-_, _≤_, _<_}
+use Prim.Native.Nat.{_-_, _≤_, _<_}
 use mathlib.Core.Path.{_≡_, refl}
 use mathlib.Core.List.{_++_}
 use lib.ListN.{length, take, drop, length-set}

@@ -1,5 +1,4 @@
 -- `surface::is_quote`: the three tests in a row. Assumes nothing.
-use Prim.Native.Nat.{_-_}
 use borrow.Author.Needs.{needs}
 use Rattle.surface.proofs.is_quote.Statement.{statement}
 use Rattle.surface.proofs.is_quote.Tie as tie

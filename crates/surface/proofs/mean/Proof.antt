@@ -1,5 +1,4 @@
 -- `surface::mean`: the count of at most 32 bits is a float. Assumes nothing.
-use Prim.Native.Nat.{_-_}
 use mathlib.Core.Path.{refl}
 use lib.Ieee.{ofInt}
 use borrow.Author.Needs.{needs}

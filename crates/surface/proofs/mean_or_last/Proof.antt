@@ -1,6 +1,5 @@
 -- `surface::mean_or_last`: the branch that its test chose. Assumes nothing.
 use borrow.Author.Tests.{ne-eqb, eq-eqb}
-use Prim.Native.Nat.{_-_}
 use borrow.Author.Needs.{needs}
 use Rattle.surface.proofs.mean_or_last.Statement.{statement}
 use Rattle.surface.proofs.mean_or_last.Tie as tie

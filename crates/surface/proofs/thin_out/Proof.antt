@@ -1,7 +1,7 @@
 -- `surface::thin_out`: what is kept, and what is kept of the rest after the last one kept, is the thinned list. Assumes nothing.
 use Rattle.chart.proofs.Sorting.{thin-start, thin-drop, thin-keep, thin-end}
 use Rattle.chart.specs.Axis.{keptAfter, thinned}
-use Prim.Native.Nat.{_+_, _-_, _≤_, _<_}
+use Prim.Native.Nat.{_-_, _≤_, _<_}
 use mathlib.Core.Path.{_≡_, refl, sym, _∙_}
 use mathlib.Core.List.{_++_}
 use lib.ListN.{length, take, drop, length-set}
@@ -11,7 +11,8 @@ use Rattle.surface.proofs.thin_out.Statement.{statement}
 use Rattle.surface.proofs.thin_out.Tie as tie
 
 abbrev Inv-loop : tie.InvT-loop
-Inv-loop a₀ n last₀ kept₀ i₀ a last kept i = (kept ≤ i) × (i ≤ n) × (length a ≡ length a₀) × (take kept a ++ keptAfter last (drop i (take n a)) ≡ thinned (take n a₀))
+Inv-loop a₀ n last₀ kept₀ i₀ a last kept i =
+    (kept ≤ i) × (i ≤ n) × (length a ≡ length a₀) × (take kept a ++ keptAfter last (drop i (take n a)) ≡ thinned (take n a₀))
 
 abbrev μ-loop : tie.MeasureT-loop
 μ-loop a₀ n last₀ kept₀ i₀ a last kept i = n - i

@@ -1,6 +1,5 @@
 -- `surface_test::bits`: only a not-a-number differs from itself. Assumes nothing.
 use Rattle.floats.proofs.Signs.{nan-is}
-use Prim.Native.Nat.{_-_}
 use mathlib.Core.Path.{sym, _∙_}
 use borrow.Author.Needs.{needs}
 use Rattle.surface_test.proofs.bits.Statement.{statement}

@@ -1,7 +1,6 @@
 -- `surface_test::float`: with the sign taken off, a pattern above the infinity's is a not-a-number's. Assumes nothing.
 use lib.Ieee.Bits.{nanBits-above}
 use borrow.Author.Tests.{le-ltb}
-use Prim.Native.Nat.{_-_}
 use mathlib.Core.Path.{_∙_}
 use lib.Ieee.{binary64}
 use borrow.Author.Needs.{needs}

@@ -8,7 +8,8 @@ use Rattle.surface_test.proofs.load.Statement.{statement}
 use Rattle.surface_test.proofs.load.Tie as tie
 
 abbrev Inv-loop : tie.InvT-loop
-Inv-loop strikes₀ expiries₀ volatilities₀ input k n i₀ strikes expiries volatilities i = (i ≤ n) × (length strikes ≡ length strikes₀) × (length expiries ≡ length expiries₀) × (length volatilities ≡ length volatilities₀)
+Inv-loop strikes₀ expiries₀ volatilities₀ input k n i₀ strikes expiries volatilities i =
+    (i ≤ n) × (length strikes ≡ length strikes₀) × (length expiries ≡ length expiries₀) × (length volatilities ≡ length volatilities₀)
 
 abbrev μ-loop : tie.MeasureT-loop
 μ-loop strikes₀ expiries₀ volatilities₀ input k n i₀ strikes expiries volatilities i = n - i

@@ -1,12 +1,41 @@
 -- `trays::quote_tray`: the opening, the list by `hear_all`, and the build; demand 3's claim says what they are. Assumes nothing.
 use mathlib.Core.Path.{sym, ap, _∙_}
-use Rattle.ledger.specs.Book.{columns, outcomeOfOpening}
-use Rattle.ledger.specs.Build.{buffers}
-use Rattle.trays.specs.Tray.{slices, lent, heardOffers}
+use mathlib.Core.List.{List}
+use Rattle.ledger.specs.Book.{columnsOf, outcomeOfOpening}
+use Rattle.ledger.specs.Build.{buffersOf}
+use Rattle.ledger.specs.Model.{Opening}
+use Rattle.ledger.specs.declared.Offer.{Offer}
+use Rattle.trays.specs.Tray.{offers, answers, Lent, lent, heardOffers}
 use Rattle.trays.proofs.Trays.{shut-tray, quoted-tray}
 use borrow.Author.Needs.{needs}
 use Rattle.trays.proofs.quote_tray.Statement.{statement}
 use Rattle.trays.proofs.quote_tray.Tie as tie
+
+-- ---- places: the opening, the list heard, the build; the entry
+abbrev entry : tie.After-open → tie.Start
+entry c = c .before .before .before .before .before .before .before .before
+
+abbrev listed : tie.After-hear-all → tie.After-shortest
+listed c = c .before .before .before .before .before .before
+
+abbrev kept : tie.After-build → tie.After-hear-all
+kept c = c .before .before .before .before .before .before .before .before .before .before .before .before .before .before .before .before
+
+abbrev built : tie.After-slice-known14 → tie.After-build
+built c = c .before .before .before .before .before .before .before .before
+
+-- ---- facts: what was lent, and the list
+abbrev L : tie.After-open → Lent
+L c =
+    let a = entry c .args in
+    lent (answers (a .numbers .now) (a .evidence .now)) (columnsOf (a .strikes .now) (a .expiries .now) (a .volatilities .now))
+    (buffersOf (a .strike-axis .now) (a .expiry-axis .now) (a .grid .now) (a .counts .now))
+
+abbrev os : tie.After-open → List Offer
+os c = let a = entry c .args in heardOffers (a .kinds .now) (a .figures .now) (L c .answers)
+
+abbrev on : tie.After-open → Opening
+on c = let a = entry c .args in record { spot = a .spot; rate = a .rate }
 
 open-requires : tie.Need-open-requires
 open-requires c κs = search needs
@@ -29,10 +58,8 @@ build-requires c κs = search needs
 returns : tie.Need-returns
 unfolding outcomeOfOpening
 returns c =
-    let a = c .before .before .before .before .before .before .before .before .before .before .before .before .before .before .before .before .before .before .args in
-    let l = lent (a .numbers .now) (a .solved .now) (columns (a .strikes .now) (a .expiries .now) (a .volatilities .now)) (buffers (a .strike-axis .now) (a .expiry-axis .now) (a .grid .now) (a .counts .now)) in
-    let s = slices (a .prices .now) (a .puts .now) (a .ks .now) (a .ts .now) (a .vs .now) in
-    shut-tray (record { spot = a .spot; rate = a .rate }) (heardOffers s l) l _ _ (ap outcomeOfOpening (sym (c .before .opened .given .1)) ∙ c .before .before .before .«open» .ensures)
+    let o = c .before .before .before in
+    shut-tray (on o) (os o) (L o) _ _ (ap outcomeOfOpening (sym (c .before .opened .given .1)) ∙ o .«open» .ensures)
 
 same-length : tie.Need-same-length
 same-length c = search needs
@@ -64,14 +91,16 @@ same-length-9 c = search needs
 returns-2 : tie.Need-returns-2
 unfolding outcomeOfOpening
 returns-2 c =
-    let a = c .before .before .before .before .before .before .before .before .before .before .before .before .before .before .before .before .before .before .before .before .before .before .before .before .before .before .before .before .before .before .before .before .before .before .before .before .before .before .before .before .before .before .before .before .before .before .before .before .before .before .before .args in
-    let l = lent (a .numbers .now) (a .solved .now) (columns (a .strikes .now) (a .expiries .now) (a .volatilities .now)) (buffers (a .strike-axis .now) (a .expiry-axis .now) (a .grid .now) (a .counts .now)) in
-    let s = slices (a .prices .now) (a .puts .now) (a .ks .now) (a .ts .now) (a .vs .now) in
-    let opened = ap outcomeOfOpening (sym (c .before .before .before .before .before .before .before .before .before .before .before .before .before .before .before .before .before .before .before .before .before .before .before .before .before .before .before .before .before .before .before .before .before .before .opened2 .given .1)) ∙ c .before .before .before .before .before .before .before .before .before .before .before .before .before .before .before .before .before .before .before .before .before .before .before .before .before .before .before .before .before .before .before .before .before .before .before .before .«open» .ensures in
-    let H = c .before .before .before .before .before .before .before .before .before .before .before .before .before .before .before .before .before .before .before .before .before .before .before .before .before .before .hear-all in
-    let B = c .before .before .before .before .before .before .before .before .build in
-    quoted-tray (record { spot = a .spot; rate = a .rate }) s (c .before .before .before .before .before .before .before .before .before .before .before .before .before .before .before .before .before .before .before .before .before .before .before .before .before .before .before .before .before .before .before .before .shortest .result) _ (l .numbers) (l .solved) (l .columns) (l .buffers) (c .before .before .before .before .before .before .before .before .before .before .before .before .before .before .before .before .before .before .before .before .before .before .before .before .before .before .before .before .before .before .before .before .before .before .opened2 .given .0 .0) (H .result) (columns (H .last .1 .1 .1 .1 .1 .1 .1 .1 .1 .0) (H .last .1 .1 .1 .1 .1 .1 .1 .1 .1 .1 .0) (H .last .1 .1 .1 .1 .1 .1 .1 .1 .1 .1 .1 .0)) (H .last .1 .1 .1 .1 .1 .1 .1 .0) (H .last .1 .1 .1 .1 .1 .1 .1 .1 .0) (B .result) (buffers (B .last .1 .1 .1 .1 .0) (B .last .1 .1 .1 .1 .1 .0) (B .last .1 .1 .1 .1 .1 .1 .0) (B .last .1 .1 .1 .1 .1 .1 .1 .0))
-    (c .before .before .before .before .before .before .before .before .before .before .before .before .before .before .before .before .before .before .before .before .before .before .before .before .before .before .before .before .before .before .before .before .shortest .ensures) opened (H .ensures) (B .ensures)
+    let b = built c in
+    let h = kept b in
+    let n = listed h in
+    let f = n .before .before in
+    let o = f .before .before in
+    let l = L o in
+    let a = entry o .args in
+    quoted-tray (on o) (os o) (l .answers) (l .columns) (l .buffers) _ (h .hear-all .result) _ _ (b .build .result) _
+    (offers (a .kinds .now) (a .figures .now) (n .shortest .result)) (ap (offers (a .kinds .now) (a .figures .now)) (n .shortest .ensures))
+    (ap outcomeOfOpening (sym (f .opened2 .given .1)) ∙ o .«open» .ensures) (h .hear-all .ensures) (b .build .ensures)
 
 pub quote-tray-spec : {M : Type 1} → statement M
 quote-tray-spec =
