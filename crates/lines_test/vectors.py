@@ -163,9 +163,12 @@ def malformed(s):
     quote = frame(13, 100.0, 0.5, 0.25)
     s.line(OPENING)
     s.line(quote)
-    for text in (b"", b"1", b"10", b"13", OPENING[:-1], OPENING + b"0", quote[:-1], quote + b"0", quote[:-16], quote + quote[2:18], quote.lower(), b" " + quote[1:],
-                 quote[:-1] + b"\r", quote + b"\r", quote[:-1] + b"G", quote[:-1] + b"/", quote[:-1] + b":", quote[:-1] + b"@", quote[:-1] + b"f", quote[:-1] + b"\x00",
-                 quote[:-1] + b"\xff", quote[:17] + b" " + quote[18:], b"00" + quote[2:], b"14" + quote[2:], b"19" + quote[2:], b"21" + quote[2:34], b"1A" + quote[2:],
+    for text in (b"", b"1", b"10", b"13", OPENING[:-1], OPENING + b"0", quote[:-1], quote + b"0", quote[:-16], quote + quote[2:18], quote.lower(),
+                 b" " + quote[1:],
+                 quote[:-1] + b"\r", quote + b"\r", quote[:-1] + b"G", quote[:-1] + b"/", quote[:-1] + b":", quote[:-1] + b"@", quote[:-1] + b"f",
+                 quote[:-1] + b"\x00",
+                 quote[:-1] + b"\xff", quote[:17] + b" " + quote[18:], b"00" + quote[2:], b"14" + quote[2:], b"19" + quote[2:], b"21" + quote[2:34],
+                 b"1A" + quote[2:],
                  b"01" + quote[2:], b"A3" + quote[2:], b"10" + quote[2:], b"20" + quote[2:], b"13" + quote[2:34], b"\xef\xbb\xbf" + quote, b"hello, desk"):
         s.line(text)
     s.piece(b"0", 99999)

@@ -131,10 +131,11 @@ INPUTS = {
     "sqrt": ENDS + TINY + [-LEAST, -1.0, LARGEST, up(LARGEST, -1), 0.25, 3.0, 9.0, 1e300, 1e-300]
     + around(0.5) + around(1.0) + around(2.0) + around(4.0) + around(real(0x4340000000000000)) + around(real(0x3CA0000000000000))
     + some(1, 24, lambda r: real(r.randrange(0x7FF0000000000000))),
-    "exp": ENDS + TINY + [-LEAST, 1.0, -1.0, 0.5, -0.5, 100.0, -100.0, 709.5, -708.5, 1e300, -1e300, LARGEST, -LARGEST]
+    # -0.328 and -10, and below 0.594, 0.7082 and 1.391, tell a table with an entry off or one short from the right one.
+    "exp": ENDS + TINY + [-LEAST, 1.0, -1.0, 0.5, -0.5, -0.328, -10.0, 100.0, -100.0, 709.5, -708.5, 1e300, -1e300, LARGEST, -LARGEST]
     + around(709.0) + around(-708.0) + around(0.34657359027997264) + around(-0.34657359027997264) + around(1.0397207708399179)
     + some(2, 24, lambda r: r.uniform(-710, 710)) + some(3, 8, lambda r: r.uniform(-1, 1)),
-    "ln": ENDS + TINY + [-LEAST, -1.0, LARGEST, up(LARGEST, -1), 10.0, 0.1, 3.0]
+    "ln": ENDS + TINY + [-LEAST, -1.0, LARGEST, up(LARGEST, -1), 10.0, 0.1, 3.0, 0.594, 0.7082, 1.391]
     + around(0.5) + around(1.0) + around(2.0) + around(4.0) + around(1.4142135623730951) + around(2.8284271247461903) + around(0.7071067811865476)
     + around(real(0x000B504F333F9DE6)) + some(4, 24, lambda r: real(r.randrange(0x7FF0000000000000))) + some(5, 8, lambda r: r.uniform(0, 3)),
     "erfc": ENDS + TINY + [-LEAST, 0.5, -0.5, 1.0, -1.0, 3.0, -3.0, 5.0, -5.0, 26.0, 27.0, 28.0, LARGEST, -LARGEST]

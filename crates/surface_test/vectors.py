@@ -267,7 +267,8 @@ def trays():
             ask_build([(100.0, base, 0.25), (105.0, base + g, 0.5), (100.0, base + g + g, 1.0)])
     # gaps to the left and right, on both sides of the middle
     ask_build([(90.0, 0.5, 0.25), (110.0, 0.5, 0.5), (100.0, 1.0, 0.75), (120.0, 1.0, 1.25)],
-              [(0, k, t) for k in (90.0, 95.0, 100.0, 115.0, 120.0, up(120.0), down(90.0), NAN) for t in (0.5, 0.75, 1.0, up(1.0), down(0.5), NAN)] + [(1, 0.0, 0.75)])
+              [(0, k, t) for k in (90.0, 95.0, 100.0, 115.0, 120.0, up(120.0), down(90.0), NAN)
+               for t in (0.5, 0.75, 1.0, up(1.0), down(0.5), NAN)] + [(1, 0.0, 0.75)])
     # the order of the sum matters
     for vs in ([0.1, 0.2, 0.3], [0.3, 0.2, 0.1], [1e-6, 10.0, 1e-6, 0.1], [10.0, 0.1, 1e-6, 1e-6]):
         ask_build([(100.0, 0.5, v) for v in vs])
@@ -299,7 +300,8 @@ def trays():
     ask_build([(100.0 + i, 0.5, 0.25) for i in range(64)] + [(163.0 + 1e-13, 0.5, 0.5), (163.0 + 2.0**-39, 0.5, 0.5)])
     # 1,024 quotes
     rng = random.Random(5)
-    ask_build([(rng.choice([80.0, 90.0, 100.0, 110.0, 120.0]) + rng.randrange(4) * 2.0**-40, rng.choice([0.25, 0.5, 1.0]), rng.uniform(0.05, 2)) for _ in range(1024)],
+    ask_build([(rng.choice([80.0, 90.0, 100.0, 110.0, 120.0]) + rng.randrange(4) * 2.0**-40, rng.choice([0.25, 0.5, 1.0]), rng.uniform(0.05, 2))
+               for _ in range(1024)],
               [(0, rng.uniform(79, 121), rng.uniform(0.2, 1.1)) for _ in range(40)])
     ask_build([(float(80 + rng.randrange(64)), (1 + rng.randrange(32)) / 8, rng.uniform(0.05, 2)) for _ in range(1024)],
               [(0, rng.uniform(79, 145), rng.uniform(0.1, 4.1)) for _ in range(60)] + [(1, 0.0, 1.0 + i / 16) for i in range(8)])
@@ -309,7 +311,8 @@ def trays():
         ks = [rng.uniform(50, 150) for _ in range(rng.randrange(1, 6))]
         ts = [rng.uniform(0.1, 3) for _ in range(rng.randrange(1, 5))]
         quotes = [(rng.choice(ks) + rng.randrange(3) * rng.choice([0.0, 5e-13, 1e-12]), rng.choice(ts), rng.uniform(0.01, 3)) for _ in range(n)]
-        reads = [(rng.randrange(2), rng.choice([rng.uniform(50, 150), rng.choice(quotes)[0]]), rng.choice([rng.uniform(0.1, 3), rng.choice(quotes)[1]])) for _ in range(6)]
+        reads = [(rng.randrange(2), rng.choice([rng.uniform(50, 150), rng.choice(quotes)[0]]), rng.choice([rng.uniform(0.1, 3), rng.choice(quotes)[1]]))
+                 for _ in range(6)]
         ask_build(quotes, reads)
 
 
@@ -329,7 +332,8 @@ def fills():
     for _ in range(40):
         s, e = rng.randrange(1, 65), rng.randrange(1, 33)
         gaps = rng.random()
-        ask_fill(s, e, [(64 * i + j, NAN if rng.random() < gaps else rng.uniform(0, 2)) for i in range(min(e, 6)) for j in range(min(s, 9))] + [(rng.randrange(2048), NAN)])
+        cells = [(64 * i + j, NAN if rng.random() < gaps else rng.uniform(0, 2)) for i in range(min(e, 6)) for j in range(min(s, 9))]
+        ask_fill(s, e, cells + [(rng.randrange(2048), NAN)])
 
 
 def readings():
@@ -354,7 +358,8 @@ def readings():
     # each corner a gap, in turn; also one that has no weight
     for gap in range(6):
         at = 64 * (gap // 3) + gap % 3
-        ask_reads(3, 2, ks, ts, [(p, NAN if p == at else v) for p, v in cells], [(0, k, t) for k in (90.0, 95.0, 100.0, 110.0, 120.0) for t in (0.5, 0.75, 1.0)] + [(1, 0.0, 0.5)])
+        reads = [(0, k, t) for k in (90.0, 95.0, 100.0, 110.0, 120.0) for t in (0.5, 0.75, 1.0)]
+        ask_reads(3, 2, ks, ts, [(p, NAN if p == at else v) for p, v in cells], reads + [(1, 0.0, 0.5)])
     # infinite cells are numbers
     ask_reads(3, 2, ks, ts, [(0, math.inf), (1, -math.inf)], [(0, 90.0, 0.5), (0, 95.0, 0.5), (0, 95.0, 0.75)])
 

@@ -16,8 +16,8 @@ use Rattle.floats.proofs.Bounds.{Bounded, AtLeast, power-short, bounded-more, r
 use Rattle.floats.proofs.Bounds.{bounded-div, least-round, least-mul, least-div, negative-div, positive-of, positive-clear, upto-of-most, most-le, least-le}
 use Rattle.limits.specs.Ranges.{isSpot, isStrike, isExpiry, isRate, isVolatility}
 use Rattle.limits.proofs.Ranges.{at-least, at-most, spot-positive, expiry-positive, volatility-positive}
-use Rattle.normal.specs.Root.{sqrt}
-use Rattle.normal.specs.Ln.{ln}
+use Rattle.root.specs.Root.{sqrt}
+use Rattle.exponential.specs.Ln.{ln}
 use Rattle.normal.specs.Normal.{cdf}
 use Rattle.greeks.specs.Model.{ofKind, discount, spread, d1, d2, price}
 use Rattle.greeks.specs.declared.OptionType.{OptionType}

@@ -15,9 +15,9 @@ use lib.Ieee.Positive.{positive}
 use Rattle.floats.specs.Wholes.{unitsOf}
 use Rattle.floats.proofs.Short.{AtMost}
 use Rattle.floats.proofs.Bounds.{Bounded, AtLeast}
-use Rattle.normal.specs.Root.{wholeRoot, halfRoot, rootOfUnits, sqrt}
-use Rattle.normal.proofs.Squares.{IsRoot, wholeRoot-is, root-lt}
-use Rattle.normal.proofs.Nearest.{at-positive}
+use Rattle.root.specs.Root.{wholeRoot, halfRoot, rootOfUnits, sqrt}
+use Rattle.root.proofs.Squares.{IsRoot, wholeRoot-is, root-lt}
+use Rattle.root.proofs.Nearest.{at-positive}
 
 -- ---- a float by its units
 value-most : (x : Float) (u w : ℕ) → HasValue x false u (2 ^ 1074) → u ≤ w → AtMost w x

@@ -20,7 +20,7 @@ use Rattle.floats.proofs.Whole.{units-exact, distance-is, fewer}
 use Rattle.floats.proofs.Tests.{holds}
 use Rattle.limits.specs.Ranges.{isVolatility, lowestVolatility, highestVolatility}
 use Rattle.limits.proofs.Ranges.{at-least, at-most, volatility-positive}
-use Rattle.brent.specs.Brent.{TOL, EPSILON, tolerance, middle}
+use Rattle.brent.specs.Brent.{slope, base, tolerance, middle}
 
 -- ---- the constants: 0.00000101, 0.5, and the parts of the tolerance
 -- 0.00000101 is exactly top over bottom
@@ -35,12 +35,6 @@ span = decimal top bottom
 
 abbrev pub half : Float
 half = decimal 1 2
-
-abbrev pub slope : Float
-slope = decimal 2 1 ⊗ EPSILON
-
-abbrev pub base : Float
-base = half ⊗ TOL
 
 abbrev pub low : Float
 low = lowestVolatility

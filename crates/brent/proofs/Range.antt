@@ -16,7 +16,7 @@ use lib.Ieee.Bits.{is-true}
 use lib.Ieee.Positive.{num, den, positive, le→cross, through, den-pos}
 use Rattle.floats.specs.Operators.{decimal, _⊕_, _⊖_, _⊗_, _⊘_, _≺_, _≼_, if_then_else_}
 use Rattle.floats.specs.Values.{magnitude, minimum, negative, copysign}
-use Rattle.floats.proofs.Tests.{by, split, clash, and-right, and-false, or-left-false}
+use Rattle.floats.proofs.Tests.{by, split, clash, and-left, and-right, or-left-false}
 use Rattle.floats.proofs.Signs.{O, not-both-signs, neg-below}
 use Rattle.floats.proofs.Short.{Short, short-of, AtMost, le-of-most, most-round, most-scale, Quarter, quarter}
 use Rattle.floats.proofs.Minimum.{negative-round}
@@ -27,10 +27,11 @@ use Rattle.limits.proofs.Ranges.{at-least, at-most, volatility-positive}
 use Rattle.brent.specs.declared.Points.{Points}
 use Rattle.brent.specs.declared.Ratio.{Ratio}
 use Rattle.brent.specs.declared.LastSteps.{LastSteps}
-use Rattle.brent.specs.Brent.{TOL, EPSILON, reset, swap, tolerance, middle, converged, turned, interpolation, tries, reach, accepts, steps, step, advance}
+use Rattle.brent.specs.Brent.{TOL, EPSILON, reset, swap, slope, base, tolerance, middle, converged, turned, byLine, byParabola, interpolation, tries}
+use Rattle.brent.specs.Brent.{reach, accepts, steps, step, advance}
 use Rattle.brent.specs.Feed.{placed, inRange}
 use Rattle.brent.specs.Claim.{PointOf, last, best, opposing}
-use Rattle.brent.proofs.Near.{slope, base, low, high, least-positive, most-positive, tolerance-at, tolerance-least, tolerance-most, tolerance-positive}
+use Rattle.brent.proofs.Near.{low, high, least-positive, most-positive, tolerance-at, tolerance-least, tolerance-most, tolerance-positive}
 use Rattle.brent.proofs.Near.{is-half}
 
 -- ---- the range, as fractions: 0.000001 is exactly millionth over 2^72
@@ -115,19 +116,20 @@ turned-sound p q f =
     not-below true e t = absurd (not-both-signs p t e)
     not-below false e t = e
 
+-- whatever its operands are
+line-sound : (p : Points) (xm : Float) → Sound (byLine p xm)
+unfolding byLine
+line-sound p xm = turned-sound _ _ (sub-fits binary64 _ _)
+
+parabola-sound : (p : Points) (xm : Float) → Sound (byParabola p xm)
+unfolding byParabola
+parabola-sound p xm = turned-sound _ _ (mul-fits binary64 _ _)
+
 interpolation-sound : (p : Points) (xm : Float) → Sound (interpolation p xm)
 unfolding interpolation
 interpolation-sound p xm =
-    let s = p .fb ⊘ p .fa in
-    let q2 = p .fa ⊘ p .fc in
-    let r2 = p .fb ⊘ p .fc in
-    let one = decimal 1 1 in
-    let two = decimal 2 1 in
-    by Sound (λ (t : Bool). if t then (turned (two ⊗ xm ⊗ s) (one ⊖ s)) else
-    (turned (s ⊗ (two ⊗ xm ⊗ q2 ⊗ (q2 ⊖ r2) ⊖ (p .b ⊖ p .a) ⊗ (r2 ⊖ one))) ((q2 ⊖ one) ⊗ (r2 ⊖ one) ⊗ (s ⊖ one)))) (magnitude (p .a ⊖ p .c) ≺ EPSILON)
-    (λ t. turned-sound (two ⊗ xm ⊗ s) (one ⊖ s) (sub-fits binary64 one s))
-    (λ t. turned-sound (s ⊗ (two ⊗ xm ⊗ q2 ⊗ (q2 ⊖ r2) ⊖ (p .b ⊖ p .a) ⊗ (r2 ⊖ one))) ((q2 ⊖ one) ⊗ (r2 ⊖ one) ⊗ (s ⊖ one))
-    (mul-fits binary64 ((q2 ⊖ one) ⊗ (r2 ⊖ one)) (s ⊖ one)))
+    by Sound (λ (t : Bool). if t then (byLine p xm) else (byParabola p xm)) (magnitude (p .a ⊖ p .c) ≺ EPSILON) (λ t. line-sound p xm)
+    (λ t. parabola-sound p xm)
 
 -- ---- a step of sign t and at most w units, where xm has that sign and is at most w units, and 3 xm at most 2 w
 reach-is : fin false reach (pos 0) ≡ decimal reach 1
@@ -331,25 +333,13 @@ pub record In (p : Points) : Type 0 where
   pub c : isVolatility (p .c) ≡ true
 
 -- each of them must
-a-out : (p : Points) → isVolatility (p .a) ≡ false → inRange p ≡ false
-unfolding inRange
-a-out p h = simp h
-
-b-out : (p : Points) → isVolatility (p .b) ≡ false → inRange p ≡ false
-unfolding inRange
-b-out p h = simp (h, and-false)
-
-c-out : (p : Points) → isVolatility (p .c) ≡ false → inRange p ≡ false
-unfolding inRange
-c-out p h = simp (h, and-false)
-
 pub in-of : (p : Points) → inRange p ≡ true → In p
+unfolding inRange
 in-of p h =
-    record {
-      a = split (isVolatility (p .a)) (λ e. e) (λ e. clash h (a-out p e));
-      b = split (isVolatility (p .b)) (λ e. e) (λ e. clash h (b-out p e));
-      c = split (isVolatility (p .c)) (λ e. e) (λ e. clash h (c-out p e));
-    }
+    let a = isVolatility (p .a) in
+    let b = isVolatility (p .b) in
+    let c = isVolatility (p .c) in
+    record { a = and-left a b (and-left (a && b) c h); b = and-right a b (and-left (a && b) c h); c = and-right (a && b) c h }
 
 pub of-in : (p : Points) → In p → inRange p ≡ true
 unfolding inRange

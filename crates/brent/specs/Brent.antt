@@ -32,8 +32,15 @@ swap p =
     else p
 
 -- let tol1 = 2.0 * f64::EPSILON * b.abs() + 0.5 * TOL
+-- what of it grows with b, and what does not
+abbrev pub slope : Float
+slope = decimal 2 1 ⊗ EPSILON
+
+abbrev pub base : Float
+base = decimal 1 2 ⊗ TOL
+
 unfoldable pub tolerance : Float → Float
-tolerance b = decimal 2 1 ⊗ EPSILON ⊗ magnitude b ⊕ decimal 1 2 ⊗ TOL
+tolerance b = slope ⊗ magnitude b ⊕ base
 
 -- let xm = 0.5 * (c - b)
 unfoldable pub middle : Float → Float → Float
@@ -47,25 +54,34 @@ converged p = magnitude (middle (p .b) (p .c)) ≼ tolerance (p .b) || magnitude
 unfoldable pub turned : Float → Float → Ratio
 turned p q = if decimal 0 1 ≺ p then (record { p = p; q = neg q }) else (record { p = neg p; q = q })
 
--- Through two points by a line where a and c are the same, else through three by a parabola:
--- let s = fb / fa; let q2 = fa / fc; let r2 = fb / fc; and p_brent, q_brent in their two forms
-unfoldable pub interpolation : Points → Float → Ratio
-interpolation p xm =
+-- Where the line through two points crosses 0:
+-- let s = fb / fa; p_brent = 2.0 * xm * s; q_brent = 1.0 - s;
+unfoldable pub byLine : Points → Float → Ratio
+byLine p xm =
+    let s = p .fb ⊘ p .fa in
+    turned (decimal 2 1 ⊗ xm ⊗ s) (decimal 1 1 ⊖ s)
+
+-- Where the parabola through three points, each a quadratic in its error, has the error 0:
+-- let s = fb / fa; let q2 = fa / fc; let r2 = fb / fc;
+-- p_brent = s * (2.0 * xm * q2 * (q2 - r2) - (b - a) * (r2 - 1.0)); q_brent = (q2 - 1.0) * (r2 - 1.0) * (s - 1.0);
+unfoldable pub byParabola : Points → Float → Ratio
+byParabola p xm =
     let s = p .fb ⊘ p .fa in
     let q2 = p .fa ⊘ p .fc in
     let r2 = p .fb ⊘ p .fc in
     let one = decimal 1 1 in
-    let two = decimal 2 1 in
-    if magnitude (p .a ⊖ p .c) ≺ EPSILON
-    then (turned (two ⊗ xm ⊗ s) (one ⊖ s))
-    else (turned (s ⊗ (two ⊗ xm ⊗ q2 ⊗ (q2 ⊖ r2) ⊖ (p .b ⊖ p .a) ⊗ (r2 ⊖ one))) ((q2 ⊖ one) ⊗ (r2 ⊖ one) ⊗ (s ⊖ one)))
+    turned (s ⊗ (decimal 2 1 ⊗ xm ⊗ q2 ⊗ (q2 ⊖ r2) ⊖ (p .b ⊖ p .a) ⊗ (r2 ⊖ one))) ((q2 ⊖ one) ⊗ (r2 ⊖ one) ⊗ (s ⊖ one))
+
+-- if (a - c).abs() < f64::EPSILON: a and c are the same point
+unfoldable pub interpolation : Points → Float → Ratio
+interpolation p xm = if magnitude (p .a ⊖ p .c) ≺ EPSILON then (byLine p xm) else (byParabola p xm)
 
 -- e.abs() >= tol1 && fa.abs() > fb.abs()
 unfoldable pub tries : Points → Float → Bool
 tries p tol1 = tol1 ≼ magnitude (p .e) && magnitude (p .fb) ≺ magnitude (p .fa)
 
--- The factor 3.0 of the line below: an accepted interpolation is under half of so many times xm. The law of S-10 holds it from above; that it is no less
--- is held against the Rust alone (brent_test, the comparison).
+-- The factor 3.0 of the line below: an accepted interpolation is under half of so many times xm, three quarters of the way to c. The law of S-10 holds it
+-- from above; that it is no less is held by an example (Interpolations), where two thirds are taken.
 abbrev pub reach : ℕ
 reach = 3
 

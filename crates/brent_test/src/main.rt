@@ -135,10 +135,10 @@ fn moved(letter: u8, x: f64, p: Points) -> Points {
 fn turn(letter: u8, n: u64, s: Solver) -> Solver {
     let points = s.points;
     if letter == b'S' {
-        return tell(brent::start(float_of(n)));
+        return tell(solver::start(float_of(n)));
     }
     if letter == b'P' {
-        return tell(brent::feed(s, float_of(n)));
+        return tell(solver::feed(s, float_of(n)));
     }
     if letter == b'M' {
         return made(float_of(n), points, s.rounds, s.evaluations);

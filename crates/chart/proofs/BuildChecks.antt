@@ -1,6 +1,6 @@
 -- What the checks of a build say together: what holds when none before the axes does, and what the axes then add. Assumes nothing.
 use Prim.Native.Nat.{ℕ, _≤_}
-use mathlib.Core.Path.{_≡_, refl}
+use mathlib.Core.Path.{_≡_, refl, sym, ap}
 use mathlib.Core.Bool.{Bool, true, false, not}
 use mathlib.Core.List.{List, [], _∷_}
 use native.Mathlib.Omega.{arith}
@@ -59,7 +59,8 @@ module _ (c : Columns) (kept : ℕ) (small : Bool) where
 pub told : (c : Columns) (kept : ℕ) (s : Buffers) (small : Bool) → small ≡ isSmall s
     → refusal c kept s ≡ numberBy c kept small (axesRefusal (length (axes (quotes c kept) .strikes)) (length (axes (quotes c kept) .expiries)))
 unfolding refusal
-told c kept s small e = rw e
+told c kept s small e =
+    ap (λ (b : Bool). numberBy c kept b (axesRefusal (length (axes (quotes c kept) .strikes)) (length (axes (quotes c kept) .expiries)))) (sym e)
 
 -- ---- no check holds
 pub record Passed (c : Columns) (kept : ℕ) (s : Buffers) : Type 0 where

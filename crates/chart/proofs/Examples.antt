@@ -1,7 +1,8 @@
 -- Document 01's desk examples of the surface, by computation. Assumes nothing.
-use Prim.Native.Nat.{_+_, _*_, _^_}
+use Prim.Native.Nat.{ℕ, _+_, _*_, _^_}
 use mathlib.Core.Path.{_≡_, refl}
 use mathlib.Core.List.{List, [], _∷_}
+use lib.ListN.{getD}
 use lib.Ieee.{Float, sub, lt, add, div, round}
 use Rattle.floats.specs.Operators.{decimal}
 use Rattle.floats.specs.Values.{magnitude}
@@ -52,3 +53,11 @@ two-in-one = quoted hundred (decimal 1 4) ∷ quoted hundred (decimal 1 2) ∷ [
 pub one-cell : cell (axes two-in-one) two-in-one 0 0 ≡ decimal 3 8
 unfolding cell source leftward rightward axes counted added firstWhere near magnitude thinned sortedInto insert keptAfter lt sub add div round
 one-cell = refl
+
+-- "the nearest counted cell to its left in the row, else to its right": of counts 1, 0, 0, 1 the third takes the first, though the last stands nearer
+abbrev ends-counted : ℕ → ℕ
+ends-counted k = getD (1 ∷ 0 ∷ 0 ∷ 1 ∷ []) k 0
+
+pub left-first : source ends-counted 4 2 ≡ 0
+unfolding source leftward rightward
+left-first = refl

@@ -37,7 +37,7 @@ module _ (x : Float) (p : T (positive x)) where
   -- ---- not above x, to reach x is to take it; above x, every value does
   reach-below : (a : Float) → T (positive a) → Under a x → near a x ≡ reaches a x
   unfolding near
-  reach-below a q u = rw (sub-either x a p q u)
+  reach-below a q u = ap (λ (z : Float). z ≺ hair) (sub-either x a p q u)
 
   reach-above : (a : Float) → T (positive a) → Under x a → reaches a x ≡ true
   reach-above a q u =

@@ -14,23 +14,28 @@ use borrow.Author.Tests.{eq-eqb, ne-eqb, ltb-true, ltb-false}
 use Rattle.floats.proofs.Tests.{and-left, and-right, split}
 use Rattle.limits.specs.Ranges.{isStrike, isExpiry, isVolatility}
 use Rattle.limits.proofs.Ranges.{spot-positive, expiry-positive}
+use Rattle.gaps.specs.Gaps.{gapsFilled}
+use Rattle.grid.specs.Layout.{cellAt}
 use Rattle.grid.specs.Readings.{isAxis}
 use Rattle.chart.specs.Quotes.{Quote, inRange, allInRange}
 use Rattle.chart.specs.Axis.{axis, place}
 use Rattle.chart.specs.Cells.{Axes, axes, Housed, counted, count, leftward, rightward, either, source, cell}
-use Rattle.chart.specs.Meaning.{sumTo, allCounts, sourceIn, Meaning}
+use Rattle.chart.specs.Meaning.{sumTo, allCounts, sourceIn, meanOrGap, gridOf, Meaning}
+use Rattle.chart.specs.Build.{Buffers, surfaceOf}
 use Rattle.chart.specs.Steps.{Pos, Ascending, OnAxes}
 use Rattle.chart.proofs.Ordered.{Mem, sort-sorted, sort-same}
 use Rattle.chart.proofs.Spread.{placed, axis-spaced, axis-ascends, axis-place, axis-member, axis-axis}
 use Rattle.chart.proofs.Numbers.{mean-number}
 use Rattle.chart.proofs.Filing.{counted-most}
+use Rattle.chart.proofs.Layouts.{table-at}
+use Rattle.chart.proofs.Sweeping.{by-sweeps}
 use Rattle.chart.proofs.Neighbour.{Left, Right, left-is, right-is}
 
 -- ---- quotes in range have strikes and expiries that are finite and above 0
-abbrev strikes : List Quote → List Float
+abbrev pub strikes : List Quote → List Float
 strikes qs = map (λ (q : Quote). q .strike) qs
 
-abbrev expiries : List Quote → List Float
+abbrev pub expiries : List Quote → List Float
 expiries qs = map (λ (q : Quote). q .expiry) qs
 
 pub strikes-pos : (qs : List Quote) → allInRange qs ≡ true → Pos (strikes qs)
@@ -181,6 +186,21 @@ cell-number qs i j r h k l =
     let c = source-has (λ m. count (axes qs) i m qs) (length (axes qs .strikes)) j (b .0) l (b .1) (b .2) in
     mean-number (axes qs) i s (count (axes qs) i s qs) qs r (c .1) (omega (arith, counted-most (axes qs) i s qs))
 
+-- ---- an uncounted cell's count is written
+uncounted-zero : (qs : List Quote) (s : Buffers) (i j : ℕ) → length (axes qs .strikes) ≤ 64 → length (axes qs .expiries) ≤ 32 → 2048 ≤ length (s .counts)
+    → i < length (axes qs .expiries) → j < length (axes qs .strikes) → count (axes qs) i j qs ≡ 0 → getD (surfaceOf qs s .counts) (cellAt i j) 1 ≡ 0
+uncounted-zero qs s i j narrow low long h m e =
+    table-at (λ i j. count (axes qs) i j qs) (length (axes qs .strikes)) narrow (s .counts) (length (axes qs .expiries)) i j 1 (omega arith) h m ∙ e
+
+-- ---- the sweeps make the cells of the means
+swept-cells : (qs : List Quote) (was : List Float) → allInRange qs ≡ true → length qs ≤ 1024 → length (axes qs .strikes) ≤ 64
+    → length (axes qs .expiries) ≤ 32 → 2048 ≤ length was
+    → gapsFilled (length (axes qs .strikes)) (length (axes qs .expiries)) (gridOf (axes qs) (meanOrGap (axes qs) qs) was)
+    ≡ gridOf (axes qs) (cell (axes qs) qs) was
+swept-cells qs was r few narrow low long =
+    by-sweeps (axes qs) qs was narrow low long (λ i l. row-busy qs i r l)
+    (λ i j h. mean-number (axes qs) i j (count (axes qs) i j qs) qs r h (omega (arith, counted-most (axes qs) i j qs)))
+
 -- ---- the axes of some quotes are axes
 axes-are : (qs : List Quote) → allInRange qs ≡ true → 0 < length qs → (isAxis (axes qs .strikes) ≡ true) × (isAxis (axes qs .expiries) ≡ true)
 unfolding axes
@@ -208,4 +228,6 @@ meaning qs h =
       strikes-axis = λ s. axes-are qs h s .0;
       expiries-axis = λ s. axes-are qs h s .1;
       no-gap = λ s i j l m. cell-number qs i j h s l m;
+      uncounted = λ s a b l i j m n e. uncounted-zero qs s i j a b l m n e;
+      by-sweeps = λ s a b was l. swept-cells qs was h s a b l;
     }

@@ -11,6 +11,7 @@ use lib.Seq.{getD-take}
 use borrow.Author.Tests.{ltb-false}
 use lib.Ieee.{nan}
 use Rattle.limits.proofs.Checks.{none-of}
+use Rattle.grid.specs.Layout.{values}
 use Rattle.grid.proofs.Values.{length-values, map-values, values-at, values-end, values-list, values-front}
 use Rattle.chart.specs.Quotes.{Quote, Columns, quoteAt, quotes, isShort, inRange, allInRange}
 
@@ -29,6 +30,11 @@ long c h =
       expiries = ltb-false (length (c .expiries)) 1024 (n .1 .0);
       volatilities = ltb-false (length (c .volatilities)) 1024 (n .1 .1 .0);
     }
+
+-- the first quote kept is what stands first in each column
+pub first-kept : (c : Columns) → quotes c 1 ≡ quoteAt c 0 ∷ []
+unfolding values
+first-kept c = refl
 
 module _ (c : Columns) (n : ℕ) where
   pub length-quotes : length (quotes c n) ≡ n

@@ -1,47 +1,18 @@
 -- What a table holds at each place: f i j at 64 × i + j, and elsewhere what was there. Assumes nothing.
 use Prim.Native.Nat.{ℕ, zero, suc, _+_, _-_, _*_, _≤_, _<_}
 use mathlib.Core.Path.{_≡_, refl, _∙_, ap}
-use mathlib.Core.List.{List, _++_}
+use mathlib.Core.List.{List}
 use mathlib.Core.Logic.{inl, inr}
 use native.Mathlib.Nat.{eq-or-lt-of-le, le-of-suc-le-suc}
 use native.Mathlib.Omega.{arith}
 use lib.Dec.{ltb}
-use lib.ListN.{length, take, drop, getD, length-append, length-drop, List·getD-append}
-use lib.Seq.{getD-take, getD-drop, getD-append-add, length-take-le}
+use lib.ListN.{length, getD}
 use borrow.Author.Tests.{ltb-true, ltb-false}
 use Rattle.grid.specs.Layout.{cellAt, values, partly}
 use Rattle.grid.proofs.Values.{length-values, getD-values}
+use Rattle.grid.proofs.Parts.{put-length, put-before, put-here, put-after}
 use Rattle.chart.specs.Build.{table}
 use Rattle.floats.proofs.Tests.{split}
-
--- a part put into a list
-module _ {X : Type 0} (g vs : List X) (a n : ℕ) (l : a + n ≤ length g) (e : length vs ≡ n) where
-  abbrev put : List X
-  put = take a g ++ (vs ++ drop n (drop a g))
-
-  size : length (take a g) ≡ a
-  size = length-take-le a g (omega arith)
-
-  put-length : length put ≡ length g
-  put-length =
-      let rest = drop n (drop a g) in
-      omega (arith, size, length-append (take a g) (vs ++ rest), length-append vs rest, length-drop n (drop a g), length-drop a g)
-
-  put-before : (d : X) (p : ℕ) → p < a → getD put p d ≡ getD g p d
-  put-before d p h = List·getD-append (take a g) _ d p (omega (arith, size)) ∙ getD-take a g p d h
-
-  put-here : (d : X) (j : ℕ) → j < n → getD put (a + j) d ≡ getD vs j d
-  put-here d j h =
-      let q : a + j ≡ length (take a g) + j = omega (arith, size) in
-      rw q (getD-append-add (take a g) (vs ++ drop n (drop a g)) j d ∙ List·getD-append vs _ d j (omega arith))
-
-  put-after : (d : X) (p : ℕ) → a + n ≤ p → getD put p d ≡ getD g p d
-  put-after d p h =
-      let q : p ≡ length (take a g) + (length vs + (p - (a + n))) = omega (arith, size) in
-      let r : a + (n + (p - (a + n))) ≡ p = omega arith in
-      ap (λ (k : ℕ). getD put k d) q ∙ getD-append-add (take a g) (vs ++ drop n (drop a g)) (length vs + (p - (a + n))) d
-      ∙ getD-append-add vs (drop n (drop a g)) (p - (a + n)) d
-      ∙ getD-drop n (drop a g) (p - (a + n)) d ∙ getD-drop a g (n + (p - (a + n))) d ∙ ap (λ (k : ℕ). getD g k d) r
 
 module _ {X : Type 0} (f : ℕ → ℕ → X) (columns : ℕ) (few : columns ≤ 64) (was : List X) where
   pub table-length : (rows : ℕ) → 64 * rows ≤ length was → length (table rows columns f was) ≡ length was

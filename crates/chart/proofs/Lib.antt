@@ -1,3 +1,4 @@
+pub mod Examples
 pub mod Gap
 pub mod Sorting
 pub mod Kept
@@ -7,10 +8,11 @@ pub mod Tables
 pub mod BuildChecks
 pub mod Ordered
 pub mod Spread
+pub mod Layouts
+pub mod Sweeping
 pub mod Housing
 pub mod Made
-pub mod Examples
-pub mod Layouts
 pub mod Numbers
 pub mod Twins
 pub mod Halves
+pub mod Sharing

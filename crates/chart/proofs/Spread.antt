@@ -29,7 +29,7 @@ use Rattle.chart.proofs.Ordered.{Mem, Over, Ordered, sort-pos, sort-ord
 
 -- ---- near and far
 -- a value less than a hair above the last one kept belongs to it
-near-below : (x y : Float) → T (positive x) → T (positive y) → Under y x → x ⊖ y ≺ hair ≡ true → near y x ≡ true
+pub near-below : (x y : Float) → T (positive x) → T (positive y) → Under y x → x ⊖ y ≺ hair ≡ true → near y x ≡ true
 unfolding near
 near-below x y p q h k = rw (sub-either x y p q h) k
 
@@ -44,7 +44,7 @@ no-gap x y p q h k =
     nothing = unfold lt round in refl
 
 -- each value belongs to itself
-near-self : (x : Float) → T (positive x) → near x x ≡ true
+pub near-self : (x : Float) → T (positive x) → near x x ≡ true
 near-self x p = near-below x x p p (omega arith) (no-gap x x p p (omega arith) (omega arith))
 
 -- x / p ≤ y / q < z / r
@@ -172,7 +172,7 @@ thinned-spread [] p s = (tt, tt)
 thinned-spread (x ∷ xs) p s =
     ((kept-far x x xs (p .0) (p .0) (p .1) (omega arith) (s .0) (s .1), kept-spread x xs (p .0) (p .1) (s .0) (s .1)), (p .0, kept-pos x xs (p .1)))
 
-axis-pos : (xs : List Float) → Pos xs → Pos (axis xs)
+pub axis-pos : (xs : List Float) → Pos xs → Pos (axis xs)
 axis-pos xs p = thinned-spread _ (sort-pos xs p) (sort-ordered xs p) .1
 
 kept-over : (k : Float) (xs : List Float) (j : Float) → Over j xs → Over j (keptAfter k xs)
@@ -191,7 +191,7 @@ kept-ordered k (y ∷ ys) s =
     let b = kept-ordered y ys (s .1) in
     split (y ⊖ k ≺ hair) (λ t. rw t a) (λ t. rw t (kept-over y ys y (s .0), b))
 
-thinned-ordered : (xs : List Float) → Ordered xs → Ordered (thinned xs)
+pub thinned-ordered : (xs : List Float) → Ordered xs → Ordered (thinned xs)
 unfolding thinned
 thinned-ordered [] s = tt
 thinned-ordered (x ∷ xs) s = (kept-over x xs x (s .0), kept-ordered x xs (s .1))

@@ -1,15 +1,20 @@
--- What the rules come to for quotes in range: no quote is dropped or counted twice, no two axis values are a hair apart, no cell divides by 0.
+-- What the rules come to for quotes in range: no quote is dropped or counted twice, no two axis values are a hair apart, no cell divides by 0, and the
+-- cells are what the gap filler's sweeps make of the means.
 use Prim.Native.Nat.{ℕ, zero, suc, _+_, _≤_, _<_}
 use mathlib.Core.Path.{_≡_}
 use mathlib.Core.Bool.{true, false}
 use mathlib.Core.List.{List, [], _∷_, map, List·Permᴰ}
-use lib.ListN.{length}
-use lib.Ieee.{Float, isNan}
-use Rattle.floats.specs.Operators.{_⊖_, _≺_}
+use lib.Dec.{ltb}
+use lib.ListN.{length, getD}
+use lib.Ieee.{Float, nan, isNan}
+use Rattle.floats.specs.Operators.{_⊖_, _≺_, if_then_else_}
 use Rattle.chart.specs.Quotes.{Quote}
 use Rattle.chart.specs.Axis.{hair, sort}
+use Rattle.grid.specs.Layout.{cellAt}
 use Rattle.grid.specs.Readings.{isAxis}
-use Rattle.chart.specs.Cells.{Axes, axes, Housed, count, source, cell}
+use Rattle.gaps.specs.Gaps.{gapsFilled}
+use Rattle.chart.specs.Cells.{Axes, axes, Housed, count, mean, source, cell}
+use Rattle.chart.specs.Build.{Buffers, table, surfaceOf}
 
 -- No value of the list is below x; and of no later one, for each value of a sorted list.
 abbrev pub NoneBelow : Float → List Float → Type 0
@@ -41,6 +46,14 @@ allCounts x qs = sumTo (length (x .expiries)) (λ i. sumTo (length (x .strikes))
 abbrev pub sourceIn : Axes → List Quote → ℕ → ℕ → ℕ
 sourceIn x qs i j = source (λ k. count x i k qs) (length (x .strikes)) j
 
+-- A counted cell's mean, and a gap where nothing is counted.
+unfoldable pub meanOrGap : Axes → List Quote → ℕ → ℕ → Float
+meanOrGap x qs i j = if ltb 0 (count x i j qs) then mean x i j qs else nan
+
+-- What the cells in use of a lent grid hold.
+abbrev pub gridOf : Axes → (ℕ → ℕ → Float) → List Float → List Float
+gridOf x f was = table (length (x .expiries)) (length (x .strikes)) f was
+
 pub record Meaning (qs : List Quote) : Type 0 where
   pub strikes-sorted : Sorted (sort (map (λ (q : Quote). q .strike) qs))
   pub strikes-same : List·Permᴰ (sort (map (λ (q : Quote). q .strike) qs)) (map (λ (q : Quote). q .strike) qs)
@@ -56,3 +69,8 @@ pub record Meaning (qs : List Quote) : Type 0 where
   pub strikes-axis : 0 < length qs → isAxis (axes qs .strikes) ≡ true
   pub expiries-axis : 0 < length qs → isAxis (axes qs .expiries) ≡ true
   pub no-gap : length qs ≤ 1024 → (i j : ℕ) → i < length (axes qs .expiries) → j < length (axes qs .strikes) → isNan (cell (axes qs) qs i j) ≡ false
+  pub uncounted : (s : Buffers) → length (axes qs .strikes) ≤ 64 → length (axes qs .expiries) ≤ 32 → 2048 ≤ length (s .counts) → (i j : ℕ)
+      → i < length (axes qs .expiries) → j < length (axes qs .strikes) → count (axes qs) i j qs ≡ 0 → getD (surfaceOf qs s .counts) (cellAt i j) 1 ≡ 0
+  pub by-sweeps : length qs ≤ 1024 → length (axes qs .strikes) ≤ 64 → length (axes qs .expiries) ≤ 32 → (was : List Float) → 2048 ≤ length was
+      → gapsFilled (length (axes qs .strikes)) (length (axes qs .expiries)) (gridOf (axes qs) (meanOrGap (axes qs) qs) was)
+      ≡ gridOf (axes qs) (cell (axes qs) qs) was

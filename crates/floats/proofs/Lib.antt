@@ -11,3 +11,7 @@ pub mod Between
 pub mod Bounds
 pub mod Above
 pub mod Absorb
+pub mod Digits
+pub mod Pattern
+pub mod Neighbours
+pub mod Same

@@ -21,6 +21,10 @@ clash p q = absurd (true≢false (sym p ∙ q))
 pub holds : (b : Bool) → b ≡ true → T b
 holds b e = subst T (sym e) tt
 
+pub true-of : (b : Bool) → T b → b ≡ true
+true-of true t = refl
+true-of false t = absurd t
+
 pub and-left : (a b : Bool) → (a && b) ≡ true → a ≡ true
 and-left true b h = refl
 and-left false b h = h

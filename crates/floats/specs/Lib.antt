@@ -1,3 +1,4 @@
 pub mod Operators
 pub mod Values
 pub mod Wholes
+pub mod Digits

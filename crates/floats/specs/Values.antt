@@ -1,5 +1,5 @@
 -- Magnitude, minimum, sign and finiteness of a float. `finite` is the library's: neither an infinity nor a not-a-number.
-use mathlib.Core.Bool.{Bool, false}
+use mathlib.Core.Bool.{Bool, false, not}
 use lib.Ieee.{Float, nan, inf, fin, neg, isNan}
 pub use lib.Ieee.Scale.{finite}
 use Rattle.floats.specs.Operators.{_≺_, if_then_else_}
@@ -23,3 +23,9 @@ negative (fin s m e) = s
 -- Rust's f64::copysign: the magnitude of x with the sign of y.
 unfoldable pub copysign : Float → Float → Float
 copysign x y = if negative y then neg (magnitude x) else magnitude x
+
+-- Finite, with the sign clear.
+abbrev pub notNegative : Float → Bool
+notNegative nan = false
+notNegative (inf s) = false
+notNegative (fin s m e) = not s

@@ -151,28 +151,28 @@ fn three_floats(s: &[u8]) -> Frame
     ensures { λ r. ⌜ r ≡ frameOf (now (s .entry)) ⌝ }
 {
     let k = kind(s);
-    let x = float_at(s, 0);
-    let y = float_at(s, 1);
-    let z = float_at(s, 2);
+    let strike = float_at(s, 0);
+    let expiry = float_at(s, 1);
+    let value = float_at(s, 2);
     if k == 0x11 {
         return Frame::Call {
-            strike: x,
-            expiry: y,
-            price: z,
+            strike,
+            expiry,
+            price: value,
         };
     }
     if k == 0x12 {
         return Frame::Put {
-            strike: x,
-            expiry: y,
-            price: z,
+            strike,
+            expiry,
+            price: value,
         };
     }
     if k == 0x13 {
         return Frame::Vol {
-            strike: x,
-            expiry: y,
-            volatility: z,
+            strike,
+            expiry,
+            volatility: value,
         };
     }
     Frame::Bad

@@ -1,6 +1,7 @@
 // A test of crate frames: for each line of the input, read seven bytes at a time, its kind with each of its floats, or 21 for a bad line.
 use frames::Frame;
 use frames::Line;
+use frames::Taken;
 use libc::STDIN_FILENO;
 use libc::STDOUT_FILENO;
 
@@ -47,22 +48,40 @@ fn show(f: Frame) {
     }
 }
 
-fn take_byte(line: Line, b: u8) -> Line {
-    if b == b'\n' {
-        show(frames::line_frame(line));
-        return frames::no_line();
+// The line is shown where the byte before the place is the line feed that ended it.
+fn ended(line: Line, chunk: &[u8], next: usize) -> Line {
+    if next == 0 {
+        return line;
     }
-    frames::push(line, b)
+    if next > chunk.len() {
+        return line;
+    }
+    if chunk[next - 1] != b'\n' {
+        return line;
+    }
+    show(frames::line_frame(line));
+    frames::no_line()
 }
 
+// What is left of the chunk, up to a line feed.
+fn take_on(t: Taken, chunk: &[u8]) -> Taken {
+    if t.next >= chunk.len() {
+        return t;
+    }
+    let u = frames::take_line(t.line, chunk, t.next);
+    let line = ended(u.line, chunk, u.next);
+    Taken { line, next: u.next }
+}
+
+// A chunk ends no more lines than it has bytes.
 fn take_chunk(line: Line, chunk: &[u8]) -> Line {
-    let mut l = line;
+    let mut t = Taken { line, next: 0 };
     let mut i = 0;
     while i < chunk.len() {
-        l = take_byte(l, chunk[i]);
+        t = take_on(t, chunk);
         i += 1;
     }
-    l
+    t.line
 }
 
 fn read_some(line: Line) -> Turn {

@@ -1,2 +1,3 @@
 pub mod CallOrPut
 pub mod Solving
+pub mod Theorem

@@ -1,7 +1,7 @@
 -- The seven greeks of src/options/greeks.rs, in its order of operations; theta and rho a year.
 use lib.Ieee.{Float, neg}
 use Rattle.floats.specs.Operators.{decimal, _⊕_, _⊖_, _⊗_, _⊘_}
-use Rattle.normal.specs.Root.{sqrt}
+use Rattle.root.specs.Root.{sqrt}
 use Rattle.normal.specs.Normal.{pdf, cdf}
 use Rattle.greeks.specs.Model.{ofKind, discount, d1, d2}
 use Rattle.greeks.specs.declared.OptionParams.{OptionParams}

@@ -3,3 +3,4 @@ pub mod Greeks
 pub mod Prepared
 pub mod Checks
 pub mod Implied
+pub mod Claim

@@ -2,9 +2,9 @@
 -- S-6 will put a dividend yield in the record: `atVolatility` copies it, `d1`, `price` and the greeks that use it name it, and no other definition does.
 use lib.Ieee.{Float, neg}
 use Rattle.floats.specs.Operators.{decimal, _⊕_, _⊖_, _⊗_, _⊘_}
-use Rattle.normal.specs.Root.{sqrt}
-use Rattle.normal.specs.Exp.{exp}
-use Rattle.normal.specs.Ln.{ln}
+use Rattle.root.specs.Root.{sqrt}
+use Rattle.exponential.specs.Exp.{exp}
+use Rattle.exponential.specs.Ln.{ln}
 use Rattle.normal.specs.Normal.{cdf}
 use Rattle.greeks.specs.declared.OptionType.{OptionType}
 use Rattle.greeks.specs.declared.OptionType.the-variants.{Call, Put}

@@ -1,8 +1,8 @@
 -- An option with what does not depend on its volatility, so that a solver computes it once. No meaning of document 01's rests on this.
 use mathlib.Core.Path.{_≡_}
 use Rattle.floats.specs.Operators.{_⊘_}
-use Rattle.normal.specs.Root.{sqrt}
-use Rattle.normal.specs.Ln.{ln}
+use Rattle.root.specs.Root.{sqrt}
+use Rattle.exponential.specs.Ln.{ln}
 use Rattle.greeks.specs.Model.{discount, d1, d2}
 use Rattle.greeks.specs.declared.OptionParams.{OptionParams}
 use Rattle.greeks.specs.declared.Prepared.{Prepared}

@@ -73,6 +73,18 @@ first-upto p (y ∷ ys) (suc i) d k h =
     let r = first-upto p ys i d (le-of-suc-le-suc k) h in
     split (p y) (λ e. rw e (omega arith)) (λ e. rw e (omega arith))
 
+-- no value before the first passes, and the first does
+pub first-before : (p : Float → Bool) (ys : List Float) (i : ℕ) (d : Float) → i < firstWhere p ys → p (getD ys i d) ≡ false
+first-before p ys i d h =
+    split (p (getD ys i d))
+    (λ t. let q = first-upto p ys i d (omega (arith, first-most p ys)) t in absurd (omega arith))
+    (λ t. t)
+
+pub first-hit : (p : Float → Bool) (ys : List Float) (d : Float) → firstWhere p ys < length ys → p (getD ys (firstWhere p ys) d) ≡ true
+unfolding firstWhere
+first-hit p [] d h = absurd (omega arith)
+first-hit p (y ∷ ys) d h = split (p y) (λ t. rw t t) (λ t. rw t (first-hit p ys d (le-of-suc-le-suc (rw t at h))))
+
 -- and after i, where it does not
 pub first-past : (p : Float → Bool) (ys : List Float) (i : ℕ) (d : Float) → Rising p ys → i < length ys → p (getD ys i d) ≡ false
     → i < firstWhere p ys

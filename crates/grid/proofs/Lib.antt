@@ -2,9 +2,10 @@ pub mod Fronts
 pub mod First
 pub mod Values
 pub mod Rows
-pub mod Passes
-pub mod Columns
+pub mod Parts
+pub mod Places
 pub mod Ascent
 pub mod ReadChecks
 pub mod ReadCases
-pub mod Examples
+pub mod Bracketing
+pub mod Middles

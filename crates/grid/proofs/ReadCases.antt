@@ -1,22 +1,22 @@
 -- The cases of a bracket and of a reading, by the tests that choose them. Assumes nothing.
 use Prim.Native.Nat.{ℕ, _-_}
 use mathlib.Core.Path.{_≡_}
-use mathlib.Core.Bool.{true, false, not, _||_}
+use mathlib.Core.Bool.{true, false, _||_}
 use mathlib.Core.List.{List}
 use lib.Dec.{leb, eqb}
 use lib.ListN.{length, take, getD}
 use lib.Ieee.{Float, nan}
 use borrow.Author.Tests.{ne-eqb}
-use Rattle.floats.specs.Operators.{decimal, _≼_}
+use Rattle.floats.specs.Operators.{decimal}
 use Rattle.limits.specs.Checks.{first}
 use Rattle.limits.specs.Outcome.{done, refused, answered}
 use Rattle.grid.specs.Search.{firstWhere}
-use Rattle.grid.specs.Readings.{fraction, bracket, corners, hasGap, bilinear, readRefusal, reading}
+use Rattle.grid.specs.Readings.{fraction, above, bracket, corners, hasGap, bilinear, readRefusal, reading}
 use Rattle.grid.specs.declared.Span.{Span}
 use Rattle.grid.specs.declared.Corners.{Corners}
 use Rattle.grid.proofs.ReadChecks as checks
 
-module _ (axis : List Float) (n pos : ℕ) (x : Float) (sized : length axis ≡ n) (found : pos ≡ firstWhere (λ v. not (v ≼ x)) axis) where
+module _ (axis : List Float) (n pos : ℕ) (x : Float) (sized : length axis ≡ n) (found : pos ≡ firstWhere (above x) axis) where
   abbrev at : ℕ → ℕ → Float → Span
   at lo hi t = record { lower = lo; upper = hi; fraction = t }
 

@@ -1,4 +1,3 @@
 pub mod Layout
 pub mod Search
-pub mod Gaps
 pub mod Readings

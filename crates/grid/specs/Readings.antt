@@ -1,6 +1,7 @@
 -- Document 01: "Reading checks 2, 15, 18, 19, 20 and follows `interpolate`. The at-the-money reading takes the strike at index n/2, rounded down."
 -- `bracket` and the corners v00, v10, v01, v11 are the Rust's.
-use Prim.Native.Nat.{ℕ, _-_, _/_}
+use Prim.Native.Nat.{ℕ, suc, _-_, _/_, _<_}
+use mathlib.Core.Path.{_≡_}
 use mathlib.Core.Bool.{Bool, true, false, not, _&&_, _||_}
 use mathlib.Core.List.{List, [], _∷_}
 use lib.Dec.{ltb, leb, eqb}
@@ -35,11 +36,15 @@ inside axis x = within (getD axis 0 nan) (getD axis (length axis - 1) nan) x
 unfoldable pub fraction : Float → Float → Float → Float
 fraction lo hi x = if magnitude (hi ⊖ lo) ≺ decimal 1 1000000000000000 then decimal 0 1 else (x ⊖ lo) ⊘ (hi ⊖ lo)
 
+-- A value that is not at most x.
+abbrev pub above : Float → Float → Bool
+above x v = not (v ≼ x)
+
 -- The two axis values that x stands between, by index, and the fraction. `partition_point` of an ascending axis is the first value above x.
 unfoldable pub bracket : List Float → Float → Span
 bracket axis x =
     let n = length axis in
-    let pos = firstWhere (λ v. not (v ≼ x)) axis in
+    let pos = firstWhere (above x) axis in
     if eqb n 1 || eqb pos 0 then record { lower = 0; upper = 0; fraction = decimal 0 1 } else
     (if leb n pos then record { lower = n - 1; upper = n - 1; fraction = decimal 0 1 } else
     record { lower = pos - 1; upper = pos; fraction = fraction (getD axis (pos - 1) nan) (getD axis pos nan) x })
@@ -87,7 +92,24 @@ reading strikeAxis expiryAxis grid strikes expiries strike expiry =
 abbrev pub middleStrike : List Float → ℕ → Float
 middleStrike strikeAxis strikes = getD strikeAxis (strikes / 2) nan
 
+-- "The strike at index n/2, rounded down, n being the number of strikes": of one the only one, of two the upper, of three the middle, of four the third.
+pub record Middle (a b c d : Float) : Type 0 where
+  pub of-1 : middleStrike (a ∷ []) 1 ≡ a
+  pub of-2 : middleStrike (a ∷ b ∷ []) 2 ≡ b
+  pub of-3 : middleStrike (a ∷ b ∷ c ∷ []) 3 ≡ b
+  pub of-4 : middleStrike (a ∷ b ∷ c ∷ d ∷ []) 4 ≡ c
+
 -- The answer in document 01's terms.
 abbrev pub readOutcome : Reading → Outcome Float
 readOutcome (Value volatility) = done volatility
 readOutcome (Refused number) = refused number (decimal 0 1)
+
+-- What a bracket comes to, x being inside the axis: its lower value is not above x; its upper one is the next, and above x, or there is no next one.
+pub data UpperEnd (axis : List Float) (x : Float) (s : Span) : Type 0 where
+  next : suc (s .lower) ≡ s .upper → s .upper < length axis → getD axis (s .upper) nan ≼ x ≡ false
+      → s .fraction ≡ fraction (getD axis (s .lower) nan) (getD axis (s .upper) nan) x → UpperEnd axis x s
+  last : s .upper ≡ s .lower → suc (s .lower) ≡ length axis → s .fraction ≡ decimal 0 1 → UpperEnd axis x s
+
+pub record Brackets (axis : List Float) (x : Float) (s : Span) : Type 0 where
+  pub lower : getD axis (s .lower) nan ≼ x ≡ true
+  pub upper : UpperEnd axis x s

@@ -12,9 +12,9 @@ use Rattle.floats.proofs.Tests.{split}
 use Rattle.limits.specs.Ranges.{isSpot, isRate}
 use Rattle.limits.specs.Checks.{first, none}
 use Rattle.limits.specs.Outcome.{Outcome, numberOf, answered}
-use Rattle.grid.specs.Gaps.{fillOutcome, fillRefusal, FillsGaps}
-use Rattle.grid.specs.declared.Filling.{Filling}
-use Rattle.grid.specs.declared.Filling.the-variants as Filling
+use Rattle.gaps.specs.Gaps.{fillOutcome, fillRefusal, FillsGaps}
+use Rattle.gaps.specs.declared.Filling.{Filling}
+use Rattle.gaps.specs.declared.Filling.the-variants as Filling
 use Rattle.chart.specs.declared.Built.{Built}
 use Rattle.chart.specs.declared.Built.the-variants as Built
 use Rattle.chart.specs.Quotes.{Quote, Columns}

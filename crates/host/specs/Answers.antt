@@ -1,16 +1,15 @@
 -- How a host is told an outcome: a call returns 0 and writes the values, or returns document 01's number and writes the refusal's zeros.
 use Prim.Native.Nat.{ℕ}
-use mathlib.Core.Bool.{Bool}
-use mathlib.Core.List.{List, [], _∷_}
+use mathlib.Core.List.{List}
 use lib.Dec.{eqb}
 use lib.Ieee.{Float}
 use Rattle.floats.specs.Operators.{if_then_else_}
 use Rattle.limits.specs.Checks.{none}
 use Rattle.limits.specs.Outcome.{Outcome, done, refused}
 use Rattle.brent.specs.declared.Solution.{Solution}
-use Rattle.greeks.specs.declared.OptionParams.{OptionParams}
-use Rattle.greeks.specs.declared.Greeks.{Greeks}
-use Rattle.trays.specs.Tray.{kindOf, figuresOf}
+use Rattle.ledger.specs.Rows.{figuresOf}
+pub use Rattle.ledger.specs.Rows.{greeksEntries}
+unfoldable pub use Rattle.ledger.specs.Rows.{optionOf}
 
 -- What a returned number and the values written mean. Of each outcome there is one number and one writing.
 unfoldable pub told : {X : Type 0} → ℕ → X → Outcome X
@@ -21,22 +20,7 @@ unfoldable pub over : {X Y : Type 0} → (X → Y) → Outcome X → Outcome Y
 over f (done x) = done (f x)
 over f (refused number x) = refused number (f x)
 
--- ---- an option, as it is passed
-unfoldable pub optionOf : Bool → Float → Float → Float → Float → Float → OptionParams
-optionOf put spot strike expiry rate volatility =
-    record {
-      spot = spot;
-      strike = strike;
-      «time_to_expiry» = expiry;
-      «risk_free_rate» = rate;
-      volatility = volatility;
-      «option_type» = kindOf put;
-    }
-
 -- ---- values, as they are written
-abbrev pub greeksEntries : Greeks → List Float
-greeksEntries g = g .delta ∷ g .gamma ∷ g .theta ∷ g .vega ∷ g .rho ∷ g .vanna ∷ g .volga ∷ []
-
 -- The solver's four figures in an array, and its evaluations beside them.
 pub record Written : Type 0 where
   pub values : List Float

@@ -2,15 +2,15 @@
 // A slice is passed as a pointer and then its length; a `&mut` to a number or to an array, as a pointer.
 ghost use mathlib.Core.Path.{_≡_};
 ghost use Rattle.floats.specs.Operators.{decimal};
-ghost use Rattle.normal.specs.Root.{SquareRoot};
-ghost use Rattle.normal.specs.Exp.{exp};
-ghost use Rattle.normal.specs.Ln.{ln};
+ghost use Rattle.root.specs.Root.{SquareRoot};
+ghost use Rattle.exponential.specs.Exp.{exp};
+ghost use Rattle.exponential.specs.Ln.{ln};
 ghost use Rattle.normal.specs.Erfc.{erfc};
 ghost use Rattle.normal.specs.Normal.{pdf, cdf};
 ghost use Rattle.greeks.specs.Checks.{outcomeOfPrice, pricing, outcomeOfGreeks, sensitivities, noGreeks};
 ghost use Rattle.greeks.specs.Implied.{implied};
 ghost use Rattle.grid.specs.Readings.{readOutcome, reading, middleStrike};
-ghost use Rattle.grid.specs.Gaps.{fillOutcome, FillsGaps};
+ghost use Rattle.gaps.specs.Gaps.{fillOutcome, FillsGaps};
 ghost use Rattle.chart.specs.Build.{outcome};
 ghost use Rattle.ledger.specs.Book.{columnsOf, endOf};
 ghost use Rattle.ledger.specs.Build.{buffersOf};
@@ -19,11 +19,11 @@ ghost use Rattle.limits.specs.Outcome.{numberOf, valuesOf};
 ghost use Rattle.host.specs.Answers.{told, over, optionOf, greeksEntries, written, solvedWritten};
 ghost use Rattle.host.specs.Calls.{fillingIn, lengthsOf, BuildsFor, bookOf, builtOf, QuotesFor};
 use chart::Built;
+use gaps::Filling;
 use greeks::Greeks;
 use greeks::OptionParams;
 use greeks::Priced;
 use greeks::Sensitivities;
-use grid::Filling;
 use grid::Reading;
 use ledger::Book;
 use trays::Tray;
@@ -34,21 +34,21 @@ use trays::Tray;
 pub extern "C" fn kite_sqrt(x: f64) -> f64
     ensures { λ r. ⌜ SquareRoot x r ⌝ }
 {
-    normal::sqrt(x)
+    root::sqrt(x)
 }
 
 #[no_mangle]
 pub extern "C" fn kite_exp(x: f64) -> f64
     ensures { λ r. ⌜ r ≡ exp x ⌝ }
 {
-    normal::exp(x)
+    exponential::exp(x)
 }
 
 #[no_mangle]
 pub extern "C" fn kite_ln(x: f64) -> f64
     ensures { λ r. ⌜ r ≡ ln x ⌝ }
 {
-    normal::ln(x)
+    exponential::ln(x)
 }
 
 #[no_mangle]
@@ -223,7 +223,7 @@ fn filling_number(answer: Filling) -> u64
 pub extern "C" fn kite_fill_gaps(grid: &mut [f64], strikes: u64, expiries: u64) -> u64
     ensures { λ r. ⌜ FillsGaps strikes expiries (now (grid .entry)) (fillingIn r) (now (grid .exit)) ⌝ }
 {
-    filling_number(grid::fill_gaps(grid, strikes as usize, expiries as usize))
+    filling_number(gaps::fill_gaps(grid, strikes as usize, expiries as usize))
 }
 
 fn reading_number(answer: Reading) -> u64

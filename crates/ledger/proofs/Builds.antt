@@ -132,14 +132,14 @@ module _ (opening : Opening) (was : Columns) (ok : openRefusal opening ≡ none)
   refusal-is : buildRefusal (l .book) (l .columns) s ≡ surfaceRefusal (t .quotes) s (isShort was)
   unfolding buildRefusal surfaceRefusal refusal isWrong isSmall
   refusal-is =
-      rw (same-short opening was l t a, unbroken opening was l t ok a, le-ltb 1024 (l .book .kept) (omega (arith, a .kept, a .room)), same, a .ranged)
+      simp (same-short opening was l t a, unbroken opening was l t ok a, le-ltb 1024 (l .book .kept) (omega (arith, a .kept, a .room)), same, a .ranged)
       (twice (isShort was) (isSmall s) (ltb 64 (width (t .quotes) s)) (ltb 32 (height (t .quotes) s)))
 
   outcome-is : buildOutcome (l .book) (l .columns) s ≡ answered (surfaceRefusal (t .quotes) s (isShort was)) noLengths (lengths (axes (t .quotes)))
   outcome-is = λ i. answered (refusal-is i) noLengths (lengths (axes (same i)))
 
   buffers-are : buffersAfter (l .book) (l .columns) s ≡ unlessRefused (surfaceRefusal (t .quotes) s (isShort was)) (surfaceOf (t .quotes) s) s
-  buffers-are = λ i. unlessRefused (refusal-is i) (surfaceOf (same i) s) s
+  buffers-are = rw (refusal-is, same)
 
   pub build-claim : BuildClaim (t .quotes) s (isShort was) (buildOutcome (l .book) (l .columns) s) (buffersAfter (l .book) (l .columns) s)
   unfolding unlessRefused

@@ -1,7 +1,7 @@
 -- Demand 3, whole: after every list of offers to a fresh book it agrees with the plain tally, and its build is the surface of the tally's quotes.
 -- Assumes nothing.
 use borrow.Author.Tests.{eq-eqb, ne-eqb}
-use Rattle.limits.specs.Checks.{none}
+use Rattle.limits.specs.Checks.{first, none}
 use Rattle.limits.specs.Outcome.{answered}
 use Rattle.ledger.specs.Model.{Opening}
 use Rattle.ledger.specs.Book.{openRefusal, opened}
@@ -10,8 +10,15 @@ use Rattle.ledger.proofs.Lists.{list-claim, agreed, quoted}
 use Rattle.ledger.proofs.Builds.{build-claim}
 
 opens : (opening : Opening) → OpeningClaim opening (opened opening)
-unfolding opened answered
-opens opening = record { opens = λ e. rw (eq-eqb (openRefusal opening) none e); stays-shut = λ n. rw (ne-eqb (openRefusal opening) none n) }
+unfolding opened answered openRefusal first
+opens opening =
+    record {
+      opens = λ e. rw (eq-eqb (openRefusal opening) none e);
+      stays-shut = λ n. rw (ne-eqb (openRefusal opening) none n);
+      by-spot = λ s. rw s;
+      by-rate = λ s r. rw (s, r);
+      accepted = λ s r. rw (s, r);
+    }
 
 pub claim : Claim
 claim =

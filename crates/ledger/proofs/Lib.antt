@@ -11,3 +11,4 @@ pub mod Demand3
 pub mod TeethSurface
 pub mod Teeth
 pub mod Twelve
+pub mod Rows

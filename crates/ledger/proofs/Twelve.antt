@@ -2,9 +2,11 @@
 use mathlib.Core.Path.{_≡_, refl}
 use lib.Ieee.{lt, sub, round}
 use Rattle.floats.specs.Values.{magnitude}
+use Rattle.root.proofs.Examples as root
+use Rattle.exponential.proofs.Examples as exponential
 use Rattle.normal.proofs.Examples as normal
 use Rattle.brent.proofs.Examples as brent
-use Rattle.grid.proofs.Examples.{row-filled}
+use Rattle.gaps.proofs.Examples.{row-filled}
 use Rattle.grid.specs.Search.{firstWhere}
 use Rattle.chart.proofs.Examples.{one-column, two-columns, one-cell}
 use Rattle.chart.specs.Axis.{insert, sortedInto, keptAfter, thinned, near}
@@ -18,13 +20,13 @@ three = refl
 
 pub twelve : Holds table
 twelve = (
-  normal.examples .root-of-a-quarter,
+  root.examples .root-of-a-quarter,
   (
-    normal.examples .exp-of-zero,
+    exponential.examples .exp-of-zero,
     (
-      normal.examples .exp-far-below,
+      exponential.examples .exp-far-below,
       (
-        normal.examples .ln-of-one,
+        exponential.examples .ln-of-one,
         (
           normal.examples .cdf-of-zero,
           (row-filled, (one-cell, (one-column, (two-columns, (three, (brent.examples .refused-12, (brent.examples .found-10, tt))))))),

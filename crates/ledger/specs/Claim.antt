@@ -2,13 +2,13 @@
 -- offers. A field for each sentence.
 use Prim.Native.Nat.{ℕ, _+_, _≤_, _<_}
 use mathlib.Core.Path.{_≡_}
-use mathlib.Core.Bool.{Bool, false, not, _||_}
+use mathlib.Core.Bool.{Bool, true, false, not, _||_}
 use mathlib.Core.List.{List, [], _∷_, _++_, List·Memᴰ, map}
 use lib.Dec.{ltb, leb, eqb}
 use lib.ListN.{length, take, drop, getD}
 use lib.Ieee.{Float, nan}
 use Rattle.floats.specs.Operators.{decimal, _⊖_, if_then_else_}
-use Rattle.limits.specs.Ranges.{isPrice, isStrike, isExpiry, isVolatility}
+use Rattle.limits.specs.Ranges.{isPrice, isSpot, isRate, isStrike, isExpiry, isVolatility}
 use Rattle.limits.specs.Checks.{first, none}
 use Rattle.limits.specs.Outcome.{Outcome, done, refused, isDone, numberOf, valuesOf, answered}
 use Rattle.brent.specs.declared.Solution.{Solution}
@@ -238,6 +238,10 @@ pub record OpeningClaim (opening : Opening) (answer : Outcome Book) : Type 0 whe
       → answer ≡ done (record { spot = opening .spot; rate = opening .rate; kept = 0; refused = 0; heard = 0; evaluations = 0 })
   pub stays-shut : (openRefusal opening ≡ none → ⊥)
       → answer ≡ refused (openRefusal opening) (record { spot = decimal 0 1; rate = decimal 0 1; kept = 0; refused = 0; heard = 0; evaluations = 0 })
+  -- 6 for the spot, then 9 for the rate, and no other
+  pub by-spot : isSpot (opening .spot) ≡ false → numberOf answer ≡ 6
+  pub by-rate : isSpot (opening .spot) ≡ true → isRate (opening .rate) ≡ false → numberOf answer ≡ 9
+  pub accepted : isSpot (opening .spot) ≡ true → isRate (opening .rate) ≡ true → isDone answer ≡ true
 
 -- ---- demand 3
 pub record Demand3 (model : Model) (opening : Opening) (c : Columns) (os : List Offer) (s : Buffers) : Type 0 where

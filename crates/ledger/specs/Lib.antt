@@ -5,4 +5,5 @@ pub mod Book
 pub mod Build
 pub mod Claim
 pub mod Calls
+pub mod Rows
 pub mod Twelve

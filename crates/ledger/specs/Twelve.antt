@@ -6,14 +6,14 @@ use lib.ListN.{length}
 use lib.Ieee.{Float, nan, neg}
 use Rattle.floats.specs.Operators.{decimal}
 use Rattle.limits.specs.Outcome.{done, refused}
-use Rattle.normal.specs.Root.{sqrt}
-use Rattle.normal.specs.Exp.{exp}
-use Rattle.normal.specs.Ln.{ln}
+use Rattle.root.specs.Root.{sqrt}
+use Rattle.exponential.specs.Exp.{exp}
+use Rattle.exponential.specs.Ln.{ln}
 use Rattle.normal.specs.Normal.{cdf}
 use Rattle.brent.specs.Outcome.{ended, zeros}
 use Rattle.brent.specs.Feed.{over}
 use Rattle.brent.specs.Run.{run}
-use Rattle.grid.specs.Gaps.{swept}
+use Rattle.gaps.specs.Gaps.{swept}
 use Rattle.chart.specs.Quotes.{Quote}
 use Rattle.chart.specs.Axis.{axis}
 use Rattle.chart.specs.Cells.{axes, count, cell}

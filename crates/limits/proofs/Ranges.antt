@@ -1,8 +1,8 @@
 -- What a value in range is. Assumes nothing.
-use mathlib.Core.Path.{_≡_}
-use mathlib.Core.Bool.{true, _&&_}
+use mathlib.Core.Path.{_≡_, refl}
+use mathlib.Core.Bool.{true, false, _&&_}
 use lib.Dec.{T}
-use lib.Ieee.{Float, round}
+use lib.Ieee.{Float, nan, inf, fin, round, lt, le, eq}
 use lib.Ieee.Fits.{and-l, and-r}
 use lib.Ieee.Bits.{is-true}
 use lib.Ieee.Positive.{positive, between, positive-finite}
@@ -10,6 +10,13 @@ use Rattle.floats.specs.Operators.{decimal, _≼_}
 use Rattle.floats.specs.Values.{finite}
 use Rattle.floats.proofs.Tests.{holds}
 use Rattle.limits.specs.Ranges.{within, isSpot, isExpiry, isVolatility, lowestVolatility, highestVolatility}
+
+-- no range holds a not-a-number
+pub nan-outside : (lo hi : Float) → within lo hi nan ≡ false
+unfolding within le lt eq
+nan-outside nan hi = refl
+nan-outside (inf s) hi = refl
+nan-outside (fin s m e) hi = refl
 
 pub at-least : (lo hi x : Float) → within lo hi x ≡ true → T (lo ≼ x)
 unfolding within

@@ -20,9 +20,10 @@ use Rattle.frames.specs.Session.{Told, bookAfter}
 use Rattle.frames.specs.declared.Frame.the-variants.{Open, Read}
 use Rattle.frames.proofs.Claims.{streamed}
 use Rattle.lines.specs.Hear.{ledger, said, opens, offers, blank, readOf, reads, askedBy, answers, hears}
-use Rattle.lines.specs.Claims.{Roomy, Parts, lineOfTerms, lineOfOffer, Program}
+use Rattle.lines.specs.Claims.{lineOfTerms, lineOfOffer, Program}
 use Rattle.lines.proofs.Numbers.{tabled}
-use Rattle.lines.proofs.Programs.{fed-within, finished-within, any-calls}
+use Rattle.lines.proofs.Blank.{blank-strike}
+use Rattle.lines.proofs.Programs.{turned-within, any-turns, handed-on, had-room}
 
 said-book : {X : Type 0} (l : Ledger) (value : X → Float) (o : Outcome X) → said l value o .book ≡ l
 unfolding said
@@ -58,22 +59,20 @@ unfolding bookAfter after
 tray l [] = refl
 tray l (o ∷ os) = ap (λ (z : Ledger). bookAfter hears z (map lineOfOffer os)) (one l o) ∙ tray (hear bsm l o) os
 
-roomy : (chunks : List (List ℕ)) → Parts 4096 chunks → Roomy 77824 chunks
-roomy [] h = omega arith
-roomy (chunk ∷ chunks) h = (omega (arith, h .0), roomy chunks (h .1))
-
 pub program : Program
 unfolding hears askedBy answers
 program =
     record {
       streamed = streamed hears;
-      calls = any-calls;
-      roomy = roomy;
-      within = λ s c chunk out. (fed-within s c chunk out, finished-within s c out);
+      turns = any-turns;
+      handed-on = handed-on;
+      roomy = had-room;
+      within = turned-within;
       numbers = tabled;
       bad-21 = λ l. refl;
       read-only = read-only;
       bad-only = λ l. refl;
+      blank-strike = blank-strike;
       shut = shut;
       opened = accepted;
       tray = tray;

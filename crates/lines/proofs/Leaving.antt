@@ -1,7 +1,7 @@
 -- What the private functions reach, as what the public ones leave. Assumes nothing.
-use mathlib.Core.Path.{_≡_, sym, ap, _∙_}
-use mathlib.Core.Bool.{true}
-use mathlib.Core.List.{List, _++_}
+use mathlib.Core.Path.{_≡_, refl, sym, ap, _∙_}
+use mathlib.Core.Bool.{true, false}
+use mathlib.Core.List.{List, [], _∷_, _++_}
 use Prim.Native.Nat.{ℕ, _*_, _/_, _≤_, _<_}
 use native.Mathlib.Omega.{arith}
 use borrow.Author.Tests.{le-ltb}
@@ -16,7 +16,7 @@ use Rattle.frames.specs.Moves.{Place, sessionOf}
 use Rattle.frames.specs.declared.Line.{Line}
 use Rattle.frames.proofs.Moves.{text-size}
 use Rattle.lines.specs.Hear.{ledger, hears}
-use Rattle.lines.specs.Calls.{session, lineAfter, state, Left, left, wrote, ifRoom, fed, finished}
+use Rattle.lines.specs.Calls.{session, lineAfter, state, Left, left, wrote, ifRoom, fed, finished, turned}
 use Rattle.lines.specs.Moves.{place}
 use Rattle.lines.specs.declared.State.{State}
 use Rattle.lines.specs.declared.Progress.{Progress}
@@ -97,3 +97,17 @@ end-finished s c out n p₀ p c' out' r e h b to w =
     rw w
     (all-written (finish hears (session s c)) noLine (begin s c out) p c' out' g
     ∙ sym (with-room (length (unended (held (s .line)))) s c out _ (omega arith)))
+
+-- ---- a turn: the end of the input, or a chunk of it
+
+pub at-end : (s : State) (c : Columns) (part out : List ℕ) (x : Left) → length part ≡ 0 → x ≡ finished s c out →
+    record { left = x; more = turned s c [] out .more } ≡ turned s c part out
+unfolding turned
+at-end s c [] out x n e = ap (λ (z : Left). record { left = z; more = turned s c [] out .more }) e
+at-end s c (b ∷ bs) out x n e = absurd (omega (arith, n))
+
+pub at-chunk : (s : State) (c : Columns) (part out : List ℕ) (x : Left) → (length part ≡ 0 → ⊥) → x ≡ fed s c part out →
+    record { left = x; more = true } ≡ turned s c part out
+unfolding turned
+at-chunk s c [] out x n e = absurd (n refl)
+at-chunk s c (b ∷ bs) out x n e = ap (λ (z : Left). record { left = z; more = true }) e

@@ -1,8 +1,8 @@
--- The program's calls one after the other are a run of frames' session. Assumes nothing.
+-- The program's turns one after the other are a run of frames' session. Assumes nothing.
 use mathlib.Core.Path.{_≡_, refl, sym, ap, subst, _∙_}
-use mathlib.Core.Bool.{Bool, cond}
-use mathlib.Core.List.{List, [], _∷_, _++_}
-use Prim.Native.Nat.{ℕ, _*_, _≤_}
+use mathlib.Core.Bool.{Bool, cond, true, false}
+use mathlib.Core.List.{List, [], _∷_, _++_, append-nil, append-assoc}
+use Prim.Native.Nat.{ℕ, _*_, _≤_, _<_}
 use native.Mathlib.Omega.{arith}
 use lib.Dec.{eqb, ltb}
 use lib.ListN.{length, take, drop, length-append, length-drop}
@@ -17,8 +17,9 @@ use Rattle.frames.proofs.Parts.{held-pushed}
 use Rattle.frames.proofs.Taking.{pushed-length, few-feeds}
 use Rattle.frames.proofs.Streams.{any-chunks}
 use Rattle.lines.specs.Hear.{ledger, hears}
-use Rattle.lines.specs.Calls.{fresh, session, lineStep, lineAfter, Left, left, wrote, ifRoom, fed, finished}
-use Rattle.lines.specs.Claims.{countOf, textOf, called, Roomy}
+use Rattle.lines.specs.Calls.{fresh, session, lineStep, lineAfter, Left, left, wrote, ifRoom, fed, finished, turned}
+use Rattle.lines.specs.Turns.{countOf, HadRoom, textOf, Held, holds, keeps, heldAfter, written}
+use Rattle.lines.specs.Claims.{Reads}
 use Rattle.lines.specs.declared.State.{State}
 use Rattle.lines.specs.declared.Text.the-variants.{Short}
 use Rattle.lines.proofs.Lengths.{fed-size}
@@ -41,17 +42,23 @@ counts-within n s c out l line text =
     (λ (b : Bool). cond b (left (record { state = s; text = Short n }) c out) (wrote l line text out)) (ltb (length out) (19 * n))
     (λ _. omega arith) (λ _. simp length-append (omega arith))
 
-pub fed-within : (s : State) (c : Columns) (chunk out : List ℕ) → countOf (fed s c chunk out .fed .text) ≤ length (fed s c chunk out .out)
+fed-within : (s : State) (c : Columns) (chunk out : List ℕ) → countOf (fed s c chunk out .fed .text) ≤ length (fed s c chunk out .out)
 unfolding fed
 fed-within s c chunk out =
     let t = feed hears (session s c) chunk in
     counts-within (feeds chunk) s c out (t .book) (lineAfter (s .line) chunk) (t .text)
 
-pub finished-within : (s : State) (c : Columns) (out : List ℕ) → countOf (finished s c out .fed .text) ≤ length (finished s c out .out)
+finished-within : (s : State) (c : Columns) (out : List ℕ) → countOf (finished s c out .fed .text) ≤ length (finished s c out .out)
 unfolding finished
 finished-within s c out =
     let t = finish hears (session s c) in
     counts-within (length (unended (held (s .line)))) s c out (t .book) noLine (t .text)
+
+pub turned-within : (s : State) (c : Columns) (part out : List ℕ) →
+    countOf (turned s c part out .left .fed .text) ≤ length (turned s c part out .left .out)
+unfolding turned
+turned-within s c [] out = finished-within s c out
+turned-within s c (b ∷ bs) out = fed-within s c (b ∷ bs) out
 
 -- ---- the line that is held is the session's part
 
@@ -83,25 +90,71 @@ unfolding unended
 few [] = omega arith
 few (x ∷ p) = omega arith
 
-run-called : (chunks : List (List ℕ)) (s : State) (c : Columns) (out : List ℕ) → length (s .line .bytes) ≡ cap → Roomy (length out) chunks →
-    called s c out chunks ≡ run hears (ledger (s .book) c) (held (s .line)) chunks .text
-unfolding called run finished fed
-run-called [] s c out k h =
+-- The turns: each chunk is fed and its text written, then the input ends.
+abbrev called : State → Columns → List ℕ → List (List ℕ) → List ℕ
+called s c out [] = textOf (finished s c out)
+called s c out (chunk ∷ chunks) =
+    let r = fed s c chunk out in
+    textOf r ++ called (r .fed .state) (r .columns) (r .out) chunks
+
+run-called : (most : ℕ) (chunks : List (List ℕ)) (s : State) (c : Columns) (out : List ℕ) → length (s .line .bytes) ≡ cap → 0 < most
+    → Reads most chunks → 19 * most ≤ length out → called s c out chunks ≡ run hears (ledger (s .book) c) (held (s .line)) chunks .text
+unfolding run finished fed
+run-called most [] s c out k m h room =
     let t = finish hears (session s c) in
     let w = wrote (t .book) noLine (t .text) out in
     ap textOf (with-room (length (unended (held (s .line)))) s c out w (omega (arith, few (held (s .line))))) ∙ wrote-text (t .book) noLine (t .text) out
-run-called (chunk ∷ chunks) s c out k h =
+run-called most (chunk ∷ chunks) s c out k m h room =
     let t = feed hears (session s c) chunk in
     let line = lineAfter (s .line) chunk in
     let w = wrote (t .book) line (t .text) out in
-    let room : 19 * feeds chunk ≤ length out = omega (arith, h .0, few-feeds chunk) in
+    let answers : 19 * feeds chunk ≤ length out = omega (arith, h .1, few-feeds chunk) in
     let size : length (w .out) ≡ length out = wrote-size (t .book) line (t .text) out (omega (arith, fed-size (session s c) chunk)) in
-    ap (λ (r : Left). textOf r ++ called (r .fed .state) (r .columns) (r .out) chunks) (with-room (feeds chunk) s c out w room)
+    ap (λ (r : Left). textOf r ++ called (r .fed .state) (r .columns) (r .out) chunks) (with-room (feeds chunk) s c out w answers)
     ∙ ap (λ (x : List ℕ). x ++ called (w .fed .state) (w .columns) (w .out) chunks) (wrote-text (t .book) line (t .text) out)
     ∙ ap (λ (x : List ℕ). t .text ++ x)
-    (run-called chunks (w .fed .state) (w .columns) (w .out) (after-length chunk (s .line) k) (subst (λ (n : ℕ). Roomy n chunks) (sym size) (h .1))
+    (run-called most chunks (w .fed .state) (w .columns) (w .out) (after-length chunk (s .line) k) m (h .2) (omega arith)
     ∙ ap (λ (p : List ℕ). run hears (t .book) p chunks .text) (held-after chunk (session s c) (s .line) k refl))
 
-pub any-calls : (c : Columns) (out : List ℕ) (chunks : List (List ℕ)) → Roomy (length out) chunks →
-    called fresh c out chunks ≡ output hears (ledger zeroBook c) (joined chunks)
-any-calls c out chunks h = run-called chunks fresh c out refl h ∙ ap (λ (z : Session Ledger). z .text) (any-chunks hears (ledger zeroBook c) chunks)
+-- A read that gives nothing is the last, whatever would come later.
+turns-called : (most : ℕ) (parts later : List (List ℕ)) (s : State) (c : Columns) (out : List ℕ) → Reads most parts →
+    written (holds s c out) (parts ++ [] ∷ later) ≡ called s c out parts
+unfolding written turned
+turns-called most [] later s c out h = append-nil (textOf (finished s c out))
+turns-called most ([] ∷ parts) later s c out h = absurd (omega (arith, h .0))
+turns-called most ((b ∷ bs) ∷ parts) later s c out h =
+    let r = fed s c (b ∷ bs) out in
+    ap (λ (x : List ℕ). textOf r ++ x) (turns-called most parts later (r .fed .state) (r .columns) (r .out) (h .2))
+
+-- each turn gets what the last one left
+pub handed-on : (most : ℕ) (h : Held) (parts later : List (List ℕ)) → Reads most parts →
+    written h (parts ++ later) ≡ written h parts ++ written (heldAfter h parts) later
+unfolding written heldAfter turned
+handed-on most h [] later k = refl
+handed-on most h ([] ∷ parts) later k = absurd (omega (arith, k .0))
+handed-on most h ((b ∷ bs) ∷ parts) later k =
+    let r = fed (h .state) (h .columns) (b ∷ bs) (h .out) in
+    let n = keeps r in
+    ap (λ (x : List ℕ). textOf r ++ x) (handed-on most n parts later (k .2))
+    ∙ sym (append-assoc (textOf r) (written n parts) (written (heldAfter n parts) later))
+
+pub any-turns : (most : ℕ) (c : Columns) (out : List ℕ) (parts later : List (List ℕ)) → 0 < most → Reads most parts → 19 * most ≤ length out →
+    written (holds fresh c out) (parts ++ [] ∷ later) ≡ output hears (ledger zeroBook c) (joined parts)
+any-turns most c out parts later m h room =
+    turns-called most parts later fresh c out h
+    ∙ run-called most parts fresh c out refl m h room
+    ∙ ap (λ (z : Session Ledger). z .text) (any-chunks hears (ledger zeroBook c) parts)
+
+-- ---- room for a part's answers
+
+pub had-room : (s : State) (c : Columns) (part out : List ℕ) → 19 * length part ≤ length out → 19 ≤ length out →
+    HadRoom (turned s c part out .left .fed .text)
+unfolding turned finished fed
+had-room s c [] out h k =
+    let t = finish hears (session s c) in
+    let w = wrote (t .book) noLine (t .text) out in
+    subst (λ (z : Left). HadRoom (z .fed .text)) (sym (with-room (length (unended (held (s .line)))) s c out w (omega (arith, few (held (s .line)))))) tt
+had-room s c (b ∷ bs) out h k =
+    let t = feed hears (session s c) (b ∷ bs) in
+    let w = wrote (t .book) (lineAfter (s .line) (b ∷ bs)) (t .text) out in
+    subst (λ (z : Left). HadRoom (z .fed .text)) (sym (with-room (feeds (b ∷ bs)) s c out w (omega (arith, few-feeds (b ∷ bs))))) tt

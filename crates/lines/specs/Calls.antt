@@ -1,6 +1,7 @@
 -- What the calls of this crate promise: the answer, the record, and every lent entry.
 use Prim.Native.Nat.{ℕ, _*_}
 use Prim.Native.Char.{code}
+use mathlib.Core.Bool.{Bool, true, false}
 use mathlib.Core.List.{List, [], _∷_, _++_}
 use lib.Dec.{eqb, ltb}
 use lib.ListN.{length, drop}
@@ -14,6 +15,7 @@ use Rattle.frames.specs.declared.Line.{Line}
 use Rattle.lines.specs.Hear.{ledger, hears}
 use Rattle.lines.specs.declared.State.{State}
 use Rattle.lines.specs.declared.Fed.{Fed}
+use Rattle.lines.specs.declared.Step.{Step}
 use Rattle.lines.specs.declared.Text.the-variants.{Written, Short}
 
 -- ---- a stream of lines, a chunk at a time
@@ -69,3 +71,18 @@ unfolding ifRoom
 finished s c out =
     let t = finish hears (session s c) in
     ifRoom (length (unended (held (s .line)))) s c out (wrote (t .book) noLine (t .text) out)
+
+-- ---- a turn of the program
+
+-- What a turn leaves, and whether the program reads on.
+pub record Turned : Type 0 where
+  pub left : Left
+  pub more : Bool
+
+abbrev pub turnLeft : Step → Columns → List ℕ → Turned
+turnLeft r c out = record { left = left (r .fed) c out; more = r .more }
+
+-- A read that gives nothing is the end of the input, and any other a chunk of it.
+unfoldable pub turned : State → Columns → List ℕ → List ℕ → Turned
+turned s c [] out = record { left = finished s c out; more = false }
+turned s c (b ∷ bs) out = record { left = fed s c (b ∷ bs) out; more = true }

@@ -1,9 +1,9 @@
 -- What is proved of these definitions beside the contracts of the code (proofs/Claims.antt).
-use Prim.Native.Nat.{ℕ, _*_, _≤_}
+use Prim.Native.Nat.{ℕ, _*_, _≤_, _<_}
 use mathlib.Core.Path.{_≡_}
 use mathlib.Core.List.{List, [], _∷_, _++_, map}
-use lib.Ieee.{Float}
-use lib.ListN.{length, take}
+use lib.Ieee.{Float, nan}
+use lib.ListN.{length}
 use Rattle.greeks.specs.declared.OptionType.the-variants as OptionType
 use Rattle.ledger.specs.Model.{Opening, bsm}
 use Rattle.ledger.specs.declared.Offer.{Offer}
@@ -18,35 +18,14 @@ use Rattle.frames.specs.Claims.{Streamed}
 use Rattle.frames.specs.declared.Frame.{Frame}
 use Rattle.frames.specs.declared.Frame.the-variants.{Open, Call, Put, Vol, Read, Bad}
 use Rattle.lines.specs.Hear.{ledger, hears}
-use Rattle.lines.specs.Calls.{fresh as noState, Left, fed, finished}
+use Rattle.lines.specs.Calls.{fresh as noState, turned}
+use Rattle.lines.specs.Turns.{countOf, HadRoom, Held, holds, heldAfter, written}
 use Rattle.lines.specs.declared.State.{State}
-use Rattle.lines.specs.declared.Text.{Text}
-use Rattle.lines.specs.declared.Text.the-variants.{Written, Short}
 
--- The bytes that a call wrote.
-abbrev pub countOf : Text → ℕ
-countOf (Written count) = count
-countOf (Short n) = 0
-
-abbrev pub textOf : Left → List ℕ
-textOf r = take (countOf (r .fed .text)) (r .out)
-
--- The program: each chunk is fed and its text written, then the input ends. The state, the columns and the buffer are as the last call left them.
-unfoldable pub called : State → Columns → List ℕ → List (List ℕ) → List ℕ
-called s c out [] = textOf (finished s c out)
-called s c out (chunk ∷ chunks) =
-    let r = fed s c chunk out in
-    textOf r ++ called (r .fed .state) (r .columns) (r .out) chunks
-
--- A buffer of 19 bytes for each byte of a chunk.
-abbrev pub Roomy : ℕ → List (List ℕ) → Type 0
-Roomy size [] = 19 ≤ size
-Roomy size (chunk ∷ chunks) = (19 * length chunk ≤ size) × Roomy size chunks
-
--- Chunks of so many bytes at the most.
-abbrev pub Parts : ℕ → List (List ℕ) → Type 0
-Parts most [] = Unit {0}
-Parts most (chunk ∷ chunks) = (length chunk ≤ most) × Parts most chunks
+-- Parts of the input as reads give them: no part is empty, and none longer than a read.
+abbrev pub Reads : ℕ → List (List ℕ) → Type 0
+Reads most [] = Unit {0}
+Reads most (part ∷ parts) = (0 < length part) × (length part ≤ most) × Reads most parts
 
 -- The line that says an offer.
 abbrev pub lineOfTerms : Float → Float → Terms → Frame
@@ -64,20 +43,26 @@ Tabled n = (n ≤ 21) × (n ≡ 14 → ⊥)
 pub record Program : Type 0 where
   -- For every way of cutting the input into chunks, what is written is the answers to the frames of its lines, 19 bytes a line.
   pub streamed : Streamed hears
-  -- And so it is of the calls as the program makes them, whatever columns and buffer held at first.
-  pub calls : (c : Columns) (out : List ℕ) (chunks : List (List ℕ)) → Roomy (length out) chunks →
-      called noState c out chunks ≡ output hears (ledger zeroBook c) (joined chunks)
-  -- The program reads 4,096 bytes at a time and lends 77,824: never too few.
-  pub roomy : (chunks : List (List ℕ)) → Parts 4096 chunks → Roomy 77824 chunks
-  -- No call writes past the buffer.
-  pub within : (s : State) (c : Columns) (chunk out : List ℕ) →
-      (countOf (fed s c chunk out .fed .text) ≤ length (fed s c chunk out .out)) × (countOf (finished s c out .fed .text) ≤ length (finished s c out .out))
+  -- And so it is of the turns that the program makes, whatever columns and buffer held at first: those of its reads, then one of a read that gives
+  -- nothing, which is the last. The buffer has 19 bytes for each byte of a read: `desk` reads 4,096 and lends 77,824.
+  pub turns : (most : ℕ) (c : Columns) (out : List ℕ) (parts later : List (List ℕ)) → 0 < most → Reads most parts → 19 * most ≤ length out →
+      written (holds noState c out) (parts ++ [] ∷ later) ≡ output hears (ledger zeroBook c) (joined parts)
+  -- And each turn gets what the last one left: what is written for the rest of the input comes of what is held after the parts before it.
+  pub handed-on : (most : ℕ) (h : Held) (parts later : List (List ℕ)) → Reads most parts →
+      written h (parts ++ later) ≡ written h parts ++ written (heldAfter h parts) later
+  -- Such a buffer is never too short, and no turn writes past any.
+  pub roomy : (s : State) (c : Columns) (part out : List ℕ) → 19 * length part ≤ length out → 19 ≤ length out →
+      HadRoom (turned s c part out .left .fed .text)
+  pub within : (s : State) (c : Columns) (part out : List ℕ) →
+      countOf (turned s c part out .left .fed .text) ≤ length (turned s c part out .left .out)
   -- "Two decimal digits of answer" are enough: a number of the table. A line that cannot be used gets 21.
   pub numbers : (l : Ledger) (f : Frame) → Tabled (hears l f .number)
   pub bad-21 : (l : Ledger) → hears l Bad .number ≡ 21
   -- 20 and 21 change neither record nor columns.
   pub read-only : (l : Ledger) (strike expiry : Float) → hears l (Read strike expiry) .book ≡ l
   pub bad-only : (l : Ledger) → hears l Bad .book ≡ l
+  -- "20: strike, expiry": the strike comes first. A blank one is never answered by 20, which is the expiry's number and that of a gap.
+  pub blank-strike : (l : Ledger) (expiry : Float) → hears l (Read nan expiry) .number ≡ 20 → ⊥
   -- A refused opening leaves the record of zeros; an accepted one a fresh book. The columns stay.
   pub shut : (l : Ledger) (o : Opening) → (openRefusal o ≡ none → ⊥) → hears l (Open (o .spot) (o .rate)) .book ≡ ledger zeroBook (l .columns)
   pub opened : (l : Ledger) (o : Opening) → openRefusal o ≡ none → hears l (Open (o .spot) (o .rate)) .book ≡ ledger (fresh o) (l .columns)

@@ -11,7 +11,7 @@ ghost use Rattle.ledger.specs.Claim.{Ledger};
 ghost use Rattle.ledger.specs.Model.{priced};
 ghost use Rattle.frames.specs.Lines.{unended, held, feedIn, feeds};
 ghost use Rattle.lines.specs.Hear.{ledger, said, opens, reads, askedBy, answers};
-ghost use Rattle.lines.specs.Calls.{fresh, state, left, fed, finished};
+ghost use Rattle.lines.specs.Calls.{fresh, state, left, fed, finished, turnLeft, turned};
 ghost use Rattle.lines.specs.Moves.{heardOf, place, LineEnded};
 use chart::Built;
 use frames::Frame;
@@ -65,6 +65,12 @@ pub enum Text {
 pub struct Fed {
     pub state: State,
     pub text: Text,
+}
+
+// What a turn of the program leads to, and whether it reads on.
+pub struct Step {
+    pub fed: Fed,
+    pub more: bool,
 }
 
 // ---- one frame
@@ -425,4 +431,28 @@ pub fn finish(
         return written(holding(p, frames::no_line()));
     }
     written(line_ended(p, strikes, expiries, volatilities, out))
+}
+
+// A turn of the program: a part of the input as a read gave it is heard, and an empty one is the end.
+pub fn turn(
+    state: State,
+    part: &[u8],
+    strikes: &mut [f64],
+    expiries: &mut [f64],
+    volatilities: &mut [f64],
+    out: &mut [u8],
+) -> Step
+    ensures { λ r. ⌜ turnLeft r (columnsOf (now (strikes .exit)) (now (expiries .exit)) (now (volatilities .exit))) (now (out .exit))
+        ≡ turned state (columnsOf (now (strikes .entry)) (now (expiries .entry)) (now (volatilities .entry))) (now (part .entry)) (now (out .entry)) ⌝ }
+{
+    if part.len() == 0 {
+        return Step {
+            fed: finish(state, strikes, expiries, volatilities, out),
+            more: false,
+        };
+    }
+    Step {
+        fed: feed(state, part, strikes, expiries, volatilities, out),
+        more: true,
+    }
 }

@@ -13,7 +13,7 @@ use Rattle.floats.specs.Operators.{decimal, _⊗_, _⊘_, _≺_}
 use Rattle.floats.proofs.Signs.{O}
 use Rattle.floats.proofs.Bounds.{AtLeast, Clear, power-short, clear-of, bounded-div, least-round, negative-div, int-bound, whole-clear}
 use Rattle.floats.proofs.Above.{above-of-lt, above-more, zero-over}
-use Rattle.normal.specs.Exp.{exp}
+use Rattle.exponential.specs.Exp.{exp}
 use Rattle.normal.specs.Erfc.{fraction, levels, erfcFromZero}
 
 pub two-least : AtLeast (2 ^ 1075) (decimal 2 1)

@@ -4,7 +4,7 @@
 use Prim.Native.Nat.{ℕ, zero, suc, _+_, _-_, _*_, _^_}
 use lib.Ieee.{Float, neg}
 use Rattle.floats.specs.Operators.{decimal, _⊕_, _⊖_, _⊗_, _⊘_, _≺_, if_then_else_}
-use Rattle.normal.specs.Exp.{exp}
+use Rattle.exponential.specs.Exp.{exp}
 
 -- Rounds of the series and of the fraction.
 abbrev pub terms : ℕ
@@ -40,7 +40,7 @@ erfcFromZero v =
     if v ≺ decimal 2 1 then decimal 1 1 ⊖ decimal 11283791670955126 (10 ^ 16) ⊗ exp (neg (v ⊗ v)) ⊗ series v terms .sum
     else exp (neg (v ⊗ v)) ⊗ decimal 5641895835477563 (10 ^ 16) ⊘ fraction v levels
 
--- Below 0 this is 2 - erfc(-v), since -v is not below 0 (`erfc-below` in proofs/).
+-- Below 0 this is 2 - erfc(-v), since -v is not below 0 (`erfc-below` of Laws).
 unfoldable pub erfc : Float → Float
 unfolding erfcFromZero
 erfc v = if v ≺ decimal 0 1 then decimal 2 1 ⊖ erfcFromZero (neg v) else erfcFromZero v

@@ -2,7 +2,7 @@
 use Prim.Native.Nat.{_^_}
 use lib.Ieee.{Float, neg}
 use Rattle.floats.specs.Operators.{decimal, _⊗_, _⊘_}
-use Rattle.normal.specs.Exp.{exp}
+use Rattle.exponential.specs.Exp.{exp}
 use Rattle.normal.specs.Erfc.{erfc}
 
 -- FRAC_1_SQRT_2PI * (-0.5 * x * x).exp()

@@ -1,68 +1,11 @@
-// exp, ln, erfc, pdf, cdf and the square root on f64, each equal to its definition in specs/ for every input.
+// erfc, pdf and cdf on f64, each equal to its definition in specs/ for every input.
 ghost use mathlib.Core.Path.{_≡_};
-ghost use lib.Dec.{T};
-ghost use lib.Signed.{mag};
-ghost use lib.Ieee.Positive.{positive};
-ghost use lib.ListN.{length};
-ghost use Prim.Native.Nat.{_+_, _-_, _*_, _/_, _^_, _≤_, _<_};
 ghost use mathlib.Core.Bool.{true, false};
 ghost use Rattle.floats.specs.Operators.{decimal, _≺_};
-ghost use Rattle.normal.specs.Tables.{entryOf, polynomial};
-ghost use Rattle.normal.specs.Root.{SquareRoot, halfRoot};
-ghost use Rattle.normal.specs.Exp.{exp, floor, twoTo};
-ghost use Rattle.normal.specs.Ln.{ln, lnAt, lnFrom};
 ghost use Rattle.normal.specs.Erfc.{series, terms, fraction, levels, erfc, erfcFromZero};
 ghost use Rattle.normal.specs.Normal.{pdf, cdf};
-ghost use Rattle.normal.specs.Steps.{Digits, Stepped, inExponent, Small, settled, upright, mirrored};
+ghost use Rattle.normal.specs.Steps.{settled, upright, mirrored};
 ghost use Rattle.normal.specs.Pairs.{both};
-
-// The f64 nearest 1/i!.
-const E: [f64; 14] = [
-    1.0,
-    1.0,
-    0.5,
-    0.16666666666666666,
-    0.041666666666666664,
-    0.008333333333333333,
-    0.001388888888888889,
-    0.0001984126984126984,
-    2.48015873015873e-05,
-    2.7557319223985893e-06,
-    2.755731922398589e-07,
-    2.505210838544172e-08,
-    2.08767569878681e-09,
-    1.6059043836821613e-10,
-];
-
-// The f64 nearest 1/(2i+1).
-const L: [f64; 11] = [
-    1.0,
-    0.3333333333333333,
-    0.2,
-    0.14285714285714285,
-    0.1111111111111111,
-    0.09090909090909091,
-    0.07692307692307693,
-    0.06666666666666667,
-    0.058823529411764705,
-    0.05263157894736842,
-    0.047619047619047616,
-];
-
-// The sum over a table, from its last entry down.
-fn horner(table: &[f64], x: f64) -> f64
-    requires { ⌜ 0 < length (now table) ⌝ }
-    ensures { λ p. ⌜ p ≡ polynomial (entryOf (now (table .entry))) (length (now (table .entry)) - 1) x ⌝ }
-{
-    let degree = table.len() - 1;
-    let mut p = table[degree];
-    let mut n: usize = 0;
-    while n < degree {
-        p = p * x + table[degree - 1 - n];
-        n += 1;
-    }
-    p
-}
 
 // Whether round n left the sum as it was for good: each later term is at most g, since w is at most 8 and each later divisor above 8.
 fn settled(n: u32, w: f64, g: f64, sum: f64, next: f64) -> bool
@@ -129,48 +72,13 @@ fn fraction_pair(x: f64, y: f64) -> Pair
     }
 }
 
-// The largest whole number not above t.
-fn floor(t: f64) -> i64
-    requires { ⌜ Small t ⌝ }
-    ensures { λ k. ⌜ k ≡ floor t ⌝ }
-{
-    let q = std::num::truncating_f64_to_i64(t);
-    if t < (q as f64) { q - 1 } else { q }
-}
-
-// 2^k: its exponent's field is k + 1023.
-fn two_to(k: i64) -> f64
-    requires { ⌜ T (inExponent k) ⌝ }
-    ensures { λ r. ⌜ r ≡ twoTo k ⌝ }
-{
-    f64::from_bits(((k + 1023) as u64) * 4503599627370496)
-}
-
-pub fn exp(v: f64) -> f64
-    ensures { λ r. ⌜ r ≡ exp v ⌝ }
-{
-    if v != v {
-        return v;
-    }
-    if v > 709.0 {
-        return 1.0 / 0.0;
-    }
-    if v < -708.0 {
-        return 0.0;
-    }
-    let k = floor(v * 1.4426950408889634 + 0.5);
-    let f = k as f64;
-    let r = (v - f * 0.693147180369123816490) - f * 1.90821492927058770002e-10;
-    horner(&E, r) * two_to(k)
-}
-
 // erfc of two values under 2, by the series.
 fn near_pair(x: f64, y: f64) -> Pair
     requires { ⌜ (x ≺ decimal 2 1 ≡ true) × (y ≺ decimal 2 1 ≡ true) ⌝ }
     ensures { λ r. ⌜ r ≡ both erfcFromZero x y ⌝ }
 {
-    let e = 1.1283791670955126 * exp(-(x * x));
-    let f = 1.1283791670955126 * exp(-(y * y));
+    let e = 1.1283791670955126 * exponential::exp(-(x * x));
+    let f = 1.1283791670955126 * exponential::exp(-(y * y));
     let s = series_pair(x, y);
     Pair {
         first: 1.0 - e * s.first,
@@ -183,8 +91,8 @@ fn far_pair(x: f64, y: f64) -> Pair
     requires { ⌜ (x ≺ decimal 2 1 ≡ false) × (y ≺ decimal 2 1 ≡ false) ⌝ }
     ensures { λ r. ⌜ r ≡ both erfcFromZero x y ⌝ }
 {
-    let e = exp(-(x * x)) * 0.5641895835477563;
-    let f = exp(-(y * y)) * 0.5641895835477563;
+    let e = exponential::exp(-(x * x)) * 0.5641895835477563;
+    let f = exponential::exp(-(y * y)) * 0.5641895835477563;
     if (e == 0.0) & (0.0 < x) & (f == 0.0) & (0.0 < y) {
         return Pair {
             first: e,
@@ -261,7 +169,7 @@ pub fn erfc(v: f64) -> f64
 pub fn pdf(x: f64) -> f64
     ensures { λ r. ⌜ r ≡ pdf x ⌝ }
 {
-    0.3989422804014327 * exp(-0.5 * x * x)
+    0.3989422804014327 * exponential::exp(-0.5 * x * x)
 }
 
 // The standard normal probability of a value not above x, of two values at once, as a price needs it.
@@ -281,164 +189,4 @@ pub fn cdf(x: f64) -> f64
 {
     let r = cdf_pair(x, x);
     r.first
-}
-
-// The 53 leading binary digits of a float above 0, and how many digits it has in units of 2^-1074.
-struct Parts {
-    digits: u64,
-    size: u64,
-}
-
-fn taken_apart(v: f64) -> Parts
-    requires { ⌜ T (positive v) ⌝ }
-    ensures { λ r. ⌜ Digits v (r .digits) (r .size) ⌝ }
-{
-    let b = f64::to_bits(v);
-    let field = b / 4503599627370496;
-    if field == 0 {
-        let z = u64::leading_zeros(b) as u64;
-        Parts {
-            digits: b << (z - 11),
-            size: 64 - z,
-        }
-    } else {
-        Parts {
-            digits: b % 4503599627370496 + 4503599627370496,
-            size: field + 52,
-        }
-    }
-}
-
-// ln of m * 2^e, with m at most 1.4142135623730951.
-fn ln_at(m: f64, e: i64) -> f64
-    requires { ⌜ mag e < 5002 ⌝ }
-    ensures { λ r. ⌜ r ≡ lnAt m e ⌝ }
-{
-    let z = (m - 1.0) / (m + 1.0);
-    let q = horner(&L, z * z);
-    let f = e as f64;
-    f * 0.693147180369123816490 + ((2.0 * z) * q + f * 1.90821492927058770002e-10)
-}
-
-// ln of m * 2^e, with m in [1, 2).
-fn ln_from(m: f64, e: i64) -> f64
-    requires { ⌜ mag e < 5000 ⌝ }
-    ensures { λ r. ⌜ r ≡ lnFrom m e ⌝ }
-{
-    if m > 1.4142135623730951 {
-        ln_at(m * 0.5, e + 1)
-    } else {
-        ln_at(m, e)
-    }
-}
-
-pub fn ln(v: f64) -> f64
-    ensures { λ r. ⌜ r ≡ ln v ⌝ }
-{
-    if v != v {
-        return v;
-    }
-    if v < 0.0 {
-        return 0.0 / 0.0;
-    }
-    if v == 0.0 {
-        return -1.0 / 0.0;
-    }
-    if v == 1.0 / 0.0 {
-        return v;
-    }
-    let p = taken_apart(v);
-    let d = p.digits;
-    let z = p.size;
-    ln_from(f64::from_bits(d + 4602678819172646912), (z as i64) - 1075)
-}
-
-// The root so far, and what is left below it.
-struct Rooted {
-    q: u64,
-    rem: u64,
-}
-
-// One more binary digit of a root, for two more digits d of the number under it.
-fn step(q: u64, rem: u64, d: u64) -> Rooted
-    requires { ⌜ (rem ≤ 2 * q) × (d < 4) × (q < 2 ^ 60) ⌝ }
-    ensures { λ r. ⌜ Stepped q rem d (r .q) (r .rem) ⌝ }
-{
-    let r = 4 * rem + d;
-    if 4 * q + 1 <= r {
-        Rooted {
-            q: 2 * q + 1,
-            rem: r - (4 * q + 1),
-        }
-    } else {
-        Rooted { q: 2 * q, rem: r }
-    }
-}
-
-// The whole root of t, and what is left: two binary digits of t a round.
-fn leading(t: u64) -> Rooted
-    requires { ⌜ t < 2 ^ 54 ⌝ }
-    ensures { λ r. ⌜ (r .q * r .q + r .rem ≡ t) × (r .rem ≤ 2 * r .q) ⌝ }
-{
-    let mut q: u64 = 0;
-    let mut rem: u64 = 0;
-    let mut i: u64 = 27;
-    while 0 < i {
-        i -= 1;
-        let s = step(q, rem, (t >> (2 * i)) % 4);
-        q = s.q;
-        rem = s.rem;
-    }
-    Rooted { q, rem }
-}
-
-// The whole root of t * 2^54: 27 rounds more, whose digits are 0.
-fn root(t: u64) -> u64
-    requires { ⌜ t < 2 ^ 54 ⌝ }
-    ensures { λ q. ⌜ (q * q ≤ t * 2 ^ 54) × (t * 2 ^ 54 < (q + 1) * (q + 1)) ⌝ }
-{
-    let first = leading(t);
-    let mut q = first.q;
-    let mut rem = first.rem;
-    let mut n: u64 = 0;
-    while n < 27 {
-        let s = step(q, rem, 0);
-        q = s.q;
-        rem = s.rem;
-        n += 1;
-    }
-    q
-}
-
-// Half the root of t * 2^54, to the nearest whole number, times 2^k units.
-fn halved_root(t: u64, z: u64) -> f64
-    requires { ⌜ (2 ^ 52 ≤ t) × (t + 1 < 2 ^ 54) × (z < 2099) ⌝ }
-    ensures { λ r. ⌜ r ≡ halfRoot (t * 2 ^ 54) ((z + 969) / 2) ⌝ }
-{
-    f64::from_bits((root(t) + 1) / 2 + ((z + 969) / 2) * 4503599627370496)
-}
-
-pub fn sqrt(v: f64) -> f64
-    ensures { λ r. ⌜ SquareRoot v r ⌝ }
-{
-    if v != v {
-        return v;
-    }
-    if v < 0.0 {
-        return 0.0 / 0.0;
-    }
-    if v == 0.0 {
-        return v;
-    }
-    if v == 1.0 / 0.0 {
-        return v;
-    }
-    let p = taken_apart(v);
-    let d = p.digits;
-    let z = p.size;
-    if z % 2 == 0 {
-        halved_root(2 * d, z)
-    } else {
-        halved_root(d, z)
-    }
 }

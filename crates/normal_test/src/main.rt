@@ -80,10 +80,10 @@ fn value(a: u8, b: u8, x: f64, other: f64) -> f64 {
         return pair.second;
     }
     if a == b's' {
-        return normal::sqrt(x);
+        return root::sqrt(x);
     }
     if a == b'l' {
-        return normal::ln(x);
+        return exponential::ln(x);
     }
     if a == b'p' {
         return normal::pdf(x);
@@ -92,7 +92,7 @@ fn value(a: u8, b: u8, x: f64, other: f64) -> f64 {
         return normal::cdf(x);
     }
     if b == b'x' {
-        return normal::exp(x);
+        return exponential::exp(x);
     }
     normal::erfc(x)
 }

@@ -4,46 +4,40 @@
 ghost use Prim.Native.Nat.{_+_, _*_, _≤_, _<_};
 use brent::Solution;
 use chart::Built;
+use gaps::Filling;
 use greeks::Greeks;
 use greeks::Implied;
 use greeks::OptionParams;
 use greeks::OptionType;
 use greeks::Priced;
 use greeks::Sensitivities;
-use grid::Filling;
 use grid::Reading;
 use libc::STDOUT_FILENO;
 
 // ---- a line
 
-// The names of the kinds.
-fn name(kind: usize) -> [u8; 6] {
-    match kind {
-        0 => *b"sqrt  ",
-        1 => *b"exp   ",
-        2 => *b"ln    ",
-        3 => *b"erfc  ",
-        4 => *b"pdf   ",
-        5 => *b"cdf   ",
-        6 => *b"price ",
-        7 => *b"greeks",
-        8 => *b"solve ",
-        9 => *b"quote ",
-        10 => *b"build ",
-        11 => *b"strike",
-        12 => *b"expiry",
-        13 => *b"cell  ",
-        14 => *b"read  ",
-        15 => *b"middle",
-        16 => *b"gap   ",
-        17 => *b"fill  ",
-        18 => *b"filled",
-        _ => *b"none  ",
-    }
+// The names of the kinds, six letters each; the last is that of none.
+const NAMES: [u8; 120] =
+    *b"sqrt  exp   ln    erfc  pdf   cdf   price greekssolve quote build strikeexpirycell  read  middlegap   fill  fillednone  ";
+
+fn name(kind: usize) -> [u8; 6]
+    requires { ⌜ kind < 20 ⌝ }
+{
+    let at = 6 * kind;
+    [
+        NAMES[at],
+        NAMES[at + 1],
+        NAMES[at + 2],
+        NAMES[at + 3],
+        NAMES[at + 4],
+        NAMES[at + 5],
+    ]
 }
 
 // Whether a line's first six letters are the name of a kind.
-fn is(head: &[u8; 6], kind: usize) -> bool {
+fn is(head: &[u8; 6], kind: usize) -> bool
+    requires { ⌜ kind < 20 ⌝ }
+{
     let n = name(kind);
     let first = (head[0] == n[0]) & (head[1] == n[1]) & (head[2] == n[2]);
     first & (head[3] == n[3]) & (head[4] == n[4]) & (head[5] == n[5])
@@ -142,13 +136,13 @@ fn holds(line: &[u8; 240], at: usize, x: f64) -> bool
 
 fn value(kind: usize, x: f64) -> f64 {
     if kind == 0 {
-        return normal::sqrt(x);
+        return root::sqrt(x);
     }
     if kind == 1 {
-        return normal::exp(x);
+        return exponential::exp(x);
     }
     if kind == 2 {
-        return normal::ln(x);
+        return exponential::ln(x);
     }
     if kind == 3 {
         return normal::erfc(x);
@@ -440,7 +434,7 @@ fn judge_gaps(kind: usize, line: &[u8; 240], cells: &mut [f64; 2048]) -> u64 {
         return 1;
     }
     if kind == 17 {
-        let filling = grid::fill_gaps(cells, word(line, 0) as usize, word(line, 1) as usize);
+        let filling = gaps::fill_gaps(cells, word(line, 0) as usize, word(line, 1) as usize);
         return verdict(judge_filling(line, filling));
     }
     verdict(judge_axis(line, cells))
@@ -574,7 +568,9 @@ fn report(number: u64, kind: usize, head: &[u8; 6], line: &[u8; 240]) {
     io::write_all(STDOUT_FILENO, b"\n");
 }
 
-fn print_total(kind: usize, right: u64, wrong: u64) {
+fn print_total(kind: usize, right: u64, wrong: u64)
+    requires { ⌜ kind < 20 ⌝ }
+{
     if (right == 0) & (wrong == 0) {
         return;
     }

@@ -3,7 +3,7 @@
 ghost use Prim.Native.Nat.{_+_, _≤_, _<_};
 ghost use lib.ListN.{length};
 use chart::Built;
-use grid::Filling;
+use gaps::Filling;
 use grid::Reading;
 use libc::STDIN_FILENO;
 use libc::STDOUT_FILENO;
@@ -311,7 +311,7 @@ fn fill_part(grid: &mut [f64], input: &[u8]) {
     let strikes = number(input, 1, 4096);
     let expiries = number(input, 2, 4096);
     let f = number(input, 3, grid.len());
-    match grid::fill_gaps(&mut grid[z..f], strikes, expiries) {
+    match gaps::fill_gaps(&mut grid[z..f], strikes, expiries) {
         Filling::Done => {
             say(0);
         }

@@ -1,42 +1,30 @@
 -- The batch call: a fresh book hears a whole list from lent slices and is built. Its promise is demand 3's claim about the code itself.
 use Prim.Native.Nat.{ℕ, suc, min}
 use mathlib.Core.Path.{_≡_}
-use mathlib.Core.Bool.{Bool, false}
+use mathlib.Core.Bool.{Bool}
 use mathlib.Core.List.{List, [], _∷_, map}
 use lib.Dec.{eqb}
 use lib.ListN.{length, take, getD, set}
-use lib.Ieee.{Float, nan}
+use lib.Ieee.{Float}
 use Rattle.floats.specs.Operators.{if_then_else_}
 use Rattle.limits.specs.Checks.{none}
-use Rattle.limits.specs.Outcome.{Outcome, numberOf, valuesOf}
+use Rattle.limits.specs.Outcome.{Outcome}
 use Rattle.brent.specs.declared.Solution.{Solution}
-use Rattle.greeks.specs.declared.OptionType.{OptionType}
-use Rattle.greeks.specs.declared.OptionType.the-variants.{Call, Put}
 use Rattle.grid.specs.Layout.{values}
 use Rattle.ledger.specs.Model.{Opening, bsm}
 use Rattle.ledger.specs.Book.{Columns, fresh, zeroBook, openRefusal, isShort}
 use Rattle.chart.specs.Build.{Lengths, outcome}
 use Rattle.ledger.specs.Build.{Buffers, buildOutcome, buffersAfter}
 use Rattle.ledger.specs.Fold.{after, along}
+pub use Rattle.ledger.specs.Rows.{kindOf, termsOf, figuresOf}
+unfoldable pub use Rattle.ledger.specs.Rows.{offerOf, numbersOf, evidenceOf}
 use Rattle.ledger.specs.Claim.{Ledger, hear, reply, tallied, Agrees, BuildClaim}
 use Rattle.ledger.specs.declared.Book.{Book}
 use Rattle.ledger.specs.declared.Offer.{Offer}
-use Rattle.ledger.specs.declared.Terms.{Terms}
-use Rattle.ledger.specs.declared.Terms.the-variants.{Volatility, Price}
 use Rattle.trays.specs.declared.Tray.{Tray}
 use Rattle.trays.specs.declared.Tray.the-variants as Tray
 
--- ---- the offers: rows of a price or a volatility, of a put or a call, and of strike, expiry and value
-abbrev pub kindOf : Bool → OptionType
-kindOf isPut = if isPut then Put else Call
-
-abbrev pub termsOf : Bool → Bool → Float → Terms
-termsOf isPrice isPut value = if isPrice then Price (kindOf isPut) value else Volatility value
-
-unfoldable pub offerOf : List Bool → List Float → Offer
-offerOf kind row =
-    record { strike = getD row 0 nan; expiry = getD row 1 nan; terms = termsOf (getD kind 0 false) (getD kind 1 false) (getD row 2 nan) }
-
+-- ---- the offers, each a row of `kinds` and one of `figures`
 -- The first n offers of the slices.
 abbrev pub offerAt : List (List Bool) → List (List Float) → ℕ → Offer
 offerAt kinds figures i = offerOf (getD kinds i []) (getD figures i [])
@@ -48,16 +36,6 @@ offers kinds figures n = values (offerAt kinds figures) n 0
 unfoldable pub written : {X : Type 0} → ℕ → List X → List X → List X
 written i [] was = was
 written i (x ∷ xs) was = written (suc i) xs (set was i x)
-
--- One answer: its number (0 for accepted) and evaluations; its volatility, error, point c and the error there.
-unfoldable pub numbersOf : Outcome Solution → List ℕ
-numbersOf o = numberOf o ∷ valuesOf o .evaluations ∷ []
-
-abbrev pub figuresOf : Solution → List Float
-figuresOf x = x .volatility ∷ x .error ∷ x .c ∷ x .«c_error» ∷ []
-
-unfoldable pub evidenceOf : Outcome Solution → List Float
-evidenceOf o = figuresOf (valuesOf o)
 
 pub record Answers : Type 0 where
   pub numbers : List (List ℕ)

@@ -329,16 +329,35 @@ fn desk_examples() {
     let one_cell = Surface::from_quotes(&[quote(100.0, 1.0, 0.25), quote(100.0, 1.0, 0.5)]).unwrap();
     assert_eq!(one_cell.cell(0, 0).map(|c| (c.volatility, c.count)), Some((0.375, 2)));
 
-    let columns = |strikes: &[f64]| {
-        let quotes: Vec<Quote> = strikes.iter().map(|&k| quote(k, 1.0, 0.25)).collect();
-        let surface = Surface::from_quotes(&quotes).unwrap();
-        (0..surface.strikes().len()).map(|j| surface.cell(0, j).unwrap().count).collect::<Vec<u64>>()
-    };
     assert_eq!(columns(&[100.0, 100.0 + HAIR]), [2]);
     assert_eq!(columns(&[100.0, 100.0 + 2.0 * HAIR]), [1, 1]);
-    // Which column a strike falls in does not depend on what else is in the tray, nor on the order.
     assert_eq!(columns(&[100.0, 100.0 + HAIR, 100.0 + 2.0 * HAIR]), [2, 1]);
-    assert_eq!(columns(&[100.0 + 2.0 * HAIR, 100.0 + HAIR, 100.0]), [2, 1]);
+}
+
+/// How many quotes each column counts, of one quote for each strike.
+fn columns(strikes: &[f64]) -> Vec<u64> {
+    let quotes: Vec<Quote> = strikes.iter().map(|&k| quote(k, 1.0, 0.25)).collect();
+    let surface = Surface::from_quotes(&quotes).unwrap();
+    (0..surface.strikes().len()).map(|j| surface.cell(0, j).unwrap().count).collect()
+}
+
+/// Two strikes less than a hair apart share a column or not by the strikes below them; the order in which they come makes no difference.
+#[test]
+fn strikes_a_hair_apart_go_by_the_strikes_below_them() {
+    let (low, mid, high) = (100.0, 100.0 + HAIR, 100.0 + 2.0 * HAIR);
+    for pair in [[mid, high], [high, mid]] {
+        assert_eq!(columns(&pair), [2]);
+    }
+    for all in [[low, mid, high], [low, high, mid], [mid, low, high], [mid, high, low], [high, low, mid], [high, mid, low]] {
+        assert_eq!(columns(&all), [2, 1]);
+    }
+}
+
+/// Two strikes a hair or more apart never share one, whatever lies between them.
+#[test]
+fn strikes_farther_apart_never_share_a_column() {
+    assert_eq!(columns(&[100.0, 100.0 + 2.0 * HAIR]), [1, 1]);
+    assert_eq!(columns(&[100.0, 100.0 + HAIR, 100.0 + 2.0 * HAIR, 100.0 + 3.0 * HAIR, 100.0 + 4.0 * HAIR]), [2, 2, 1]);
 }
 
 #[test]

@@ -1,24 +1,37 @@
--- `desk::hear`: what `lines` writes stands within the buffer. Assumes nothing.
-use Prim.Native.Nat.{_≤_}
-use mathlib.Core.Path.{sym, subst}
-use lib.ListN.{length}
+-- `desk::hear`: the state after the turn is the one that is held. Assumes nothing.
+use Rattle.ledger.specs.Book.{Columns, columnsOf}
+use Rattle.desk.proofs.Turns.{within, roomy, stopped, heard}
 use borrow.Author.Needs.{needs}
-use Rattle.ledger.specs.Book.{columnsOf}
-use Rattle.lines.specs.Calls.{Left}
-use Rattle.lines.specs.Claims.{countOf}
-use Rattle.lines.proofs.Programs.{fed-within, finished-within}
 use Rattle.desk.proofs.hear.Statement.{statement}
 use Rattle.desk.proofs.hear.Tie as tie
 
 -- ---- places
-abbrev finished : tie.After-slice-known8 → tie.After-finish
-finished c = c .before .before .before .before .before .before .before .before
+abbrev entry : tie.After-turn → tie.Start
+entry c = c .before .before .before .before .before .before .before .before .before .before
 
-abbrev fed : tie.After-slice-known12 → tie.After-feed
-fed c = c .before .before .before .before .before .before .before .before
+abbrev C : tie.After-turn → Columns
+C t = let a = entry t .args in columnsOf (a .strikes .now) (a .expiries .now) (a .volatilities .now)
 
-finish-requires : tie.Need-finish-requires
-finish-requires c κs = search needs
+turn-requires : tie.Need-turn-requires
+turn-requires c κs = search needs
+
+write-text-requires : tie.Need-write-text-requires
+write-text-requires c κs =
+    let t = c .before .before .before .before .before .before .before .before .before .before .before in
+    let s = entry t in
+    let a = s .args in (
+      within (a .state) (C t) (a .part .now) (a .out .now) (t .turn .result) _ _ (t .turn .ensures),
+      roomy (a .state) (C t) (a .part .now) (a .out .now) (t .turn .result) _ _ (t .turn .ensures) (s .pre .0) (s .pre .1),
+    )
+
+slice-aggregate-write-all : tie.Need-slice-aggregate-write-all
+slice-aggregate-write-all c = search needs
+
+write-all-requires : tie.Need-write-all-requires
+write-all-requires c κs = search needs
+
+hold-requires : tie.Need-hold-requires
+hold-requires c κs = search needs
 
 same-length : tie.Need-same-length
 same-length c = search needs
@@ -34,13 +47,13 @@ same-length-4 c = search needs
 
 returns : tie.Need-returns
 returns c =
-    let f = finished c in
-    let a = f .before .before .before .before .before .before .before .before .before .before .before .args in
-    subst (λ (z : Left). countOf (z .fed .text) ≤ length (z .out)) (sym (f .finish .ensures))
-    (finished-within (a .state) (columnsOf (a .strikes .now) (a .expiries .now) (a .volatilities .now)) (a .out .now))
+    let t = c .before .before .before .before .before .before .before .before .before .before .before .before .before .before .before .before in
+    let a = entry t .args in
+    rw (c .hold .ensures)
+    (stopped (a .state) (C t) (a .part .now) (a .out .now) (t .turn .result) _ _ (t .turn .ensures))
 
-feed-requires : tie.Need-feed-requires
-feed-requires c κs = search needs
+hold-requires-2 : tie.Need-hold-requires-2
+hold-requires-2 c κs = search needs
 
 same-length-5 : tie.Need-same-length-5
 same-length-5 c = search needs
@@ -56,22 +69,26 @@ same-length-8 c = search needs
 
 returns-2 : tie.Need-returns-2
 returns-2 c =
-    let f = fed c in
-    let a = f .before .before .before .before .before .before .before .before .before .before .before .args in
-    subst (λ (z : Left). countOf (z .fed .text) ≤ length (z .out)) (sym (f .feed .ensures))
-    (fed-within (a .state) (columnsOf (a .strikes .now) (a .expiries .now) (a .volatilities .now)) (a .part .now) (a .out .now))
+    let t = c .before .before .before .before .before .before .before .before .before .before .before .before .before .before in
+    let a = entry t .args in
+    rw (c .hold2 .ensures)
+    (heard (a .state) (C t) (a .part .now) (a .out .now) (t .turn .result) _ _ (t .turn .ensures))
 
 pub hear-spec : {M : Type 1} → statement M
 hear-spec =
     tie.close
     (tie.spec
-    finish-requires
+    turn-requires
+    write-text-requires
+    slice-aggregate-write-all
+    write-all-requires
+    hold-requires
     same-length
     same-length-2
     same-length-3
     same-length-4
     returns
-    feed-requires
+    hold-requires-2
     same-length-5
     same-length-6
     same-length-7

@@ -15,7 +15,7 @@ first-requires c κs = search needs
 
 returns : tie.Need-returns
 unfolding impliedRefusal
-returns c = cc
+returns c = simp (c .first .ensures, c .before .option-number .ensures, c .before .before .is-price .ensures)
 
 pub implied-number-spec : {M : Type 1} → statement M
 implied-number-spec =

@@ -30,7 +30,19 @@ first-requires-4 c κs = search needs
 
 returns : tie.Need-returns
 unfolding optionRefusal
-returns c = cc
+returns c =
+    let lines = c .before .before in
+    let tests = lines .before .before in
+    simp (
+      c .first4 .ensures,
+      c .before .first3 .ensures,
+      lines .first2 .ensures,
+      lines .before .first .ensures,
+      tests .is-rate .ensures,
+      tests .before .is-expiry .ensures,
+      tests .before .before .is-strike .ensures,
+      tests .before .before .before .is-spot .ensures,
+    )
 
 pub option-number-spec : {M : Type 1} → statement M
 option-number-spec =

@@ -16,7 +16,9 @@ exp-requires c κs = search needs
 
 returns : tie.Need-returns
 unfolding discount
-returns c = (refl, record { moneyness = cc; root = cc; discount = cc })
+returns c =
+    let roots = c .before .before .before in
+    (refl, record { moneyness = roots .before .ln .ensures; root = roots .sqrt .ensures .equals; discount = c .exp .ensures })
 
 pub prepare-spec : {M : Type 1} → statement M
 prepare-spec = tie.close (tie.spec ln-requires sqrt-requires exp-requires returns)

@@ -15,7 +15,7 @@ option-number-requires c κs = search needs
 
 returns : tie.Need-returns
 unfolding refusal
-returns c = cc
+returns c = simp (c .option-number .ensures, c .before .first .ensures, c .before .before .is-volatility .ensures)
 
 pub refusal-number-spec : {M : Type 1} → statement M
 refusal-number-spec =

@@ -1,6 +1,6 @@
 -- `grid::middle`: past the end of the axis there is no value. Assumes nothing.
 use lib.ListN.{List·getD-eq-default}
-use mathlib.Core.Path.{sym, _∙_}
+use mathlib.Core.Path.{refl, sym, _∙_}
 use lib.Ieee.{nan}
 use borrow.Author.Needs.{needs}
 use Rattle.grid.proofs.middle.Statement.{statement}
@@ -16,7 +16,7 @@ nan-requires : tie.Need-nan-requires
 nan-requires c κs = search needs
 
 returns : tie.Need-returns
-returns c = search needs
+returns c = refl
 
 returns-2 : tie.Need-returns-2
 returns-2 c = c .nan .ensures ∙ sym (List·getD-eq-default (c .before .before .before .args .strike-axis .now) nan (c .before .if1 .left))

@@ -1,17 +1,17 @@
 -- `grid::partition_point`: the search stops at the first value that is not at most x. Assumes nothing.
 use Rattle.grid.proofs.First.{Looking, look-start, look-on, look-hit, look-end}
-use mathlib.Core.Bool.{not}
-use Rattle.floats.specs.Operators.{_≼_}
+use mathlib.Core.Bool.{true, false}
+use Rattle.grid.specs.Readings.{above}
 use Prim.Native.Nat.{_-_, _≤_}
 use mathlib.Core.Path.{_≡_, sym, _∙_}
-use lib.ListN.{length}
+use lib.ListN.{length, getD}
 use lib.Ieee.{nan}
 use native.Mathlib.Omega.{arith}
 use Rattle.grid.proofs.partition_point.Statement.{statement}
 use Rattle.grid.proofs.partition_point.Tie as tie
 
 abbrev Inv-loop : tie.InvT-loop
-Inv-loop sorted n x i₀ i = (n ≤ length sorted) × (i ≤ n) × Looking (λ v. not (v ≼ x)) sorted n nan i
+Inv-loop sorted n x i₀ i = (n ≤ length sorted) × (i ≤ n) × Looking (above x) sorted n nan i
 
 abbrev μ-loop : tie.MeasureT-loop
 μ-loop sorted n x i₀ i = n - i
@@ -33,8 +33,11 @@ loop-less c = omega arith
 
 loop-again : tie.Need-loop-again Inv-loop μ-loop
 loop-again c =
-    let I = c .before .before .before .loop .inv in
-    (I .0, omega arith, look-on _ _ _ _ _ (I .0) (c .before .before .if1 .left) (c .if2 .left) (I .2))
+    let at = c .before .before .before .loop in
+    let A = c .before .before .before .before .args in
+    let I = at .inv in
+    let passed : above (A .x) (getD (A .sorted .now) (at .i) nan) ≡ false = c .if2 .left in
+    (I .0, omega arith, look-on _ _ _ _ _ (I .0) (c .before .before .if1 .left) passed (I .2))
 
 returns : tie.Need-returns Inv-loop μ-loop
 returns c =
@@ -44,8 +47,11 @@ returns c =
 
 returns-2 : tie.Need-returns-2 Inv-loop μ-loop
 returns-2 c =
-    let I = c .before .before .before .loop .inv in
-    look-hit _ _ _ _ _ (I .0) (c .before .before .if1 .left) (c .if2 .taken) (I .2)
+    let at = c .before .before .before .loop in
+    let A = c .before .before .before .before .args in
+    let I = at .inv in
+    let above : above (A .x) (getD (A .sorted .now) (at .i) nan) ≡ true = c .if2 .taken in
+    look-hit _ _ _ _ _ (I .0) (c .before .before .if1 .left) above (I .2)
 
 pub partition-point-spec : {M : Type 1} → statement M
 partition-point-spec =

@@ -1,4 +1,7 @@
 -- `grid::rises`: finite, and then above. Assumes nothing.
+use mathlib.Core.Path.{sym, _∙_, ap}
+use mathlib.Core.Bool.{Bool, _&&_}
+use Rattle.floats.specs.Operators.{_≺_}
 use borrow.Author.Needs.{needs}
 use Rattle.grid.proofs.rises.Statement.{statement}
 use Rattle.grid.proofs.rises.Tie as tie
@@ -7,7 +10,9 @@ is-finite-requires : tie.Need-is-finite-requires
 is-finite-requires c κs = search needs
 
 returns : tie.Need-returns
-returns c = let t = simp (c .before .is-finite .ensures) at (c .if1 .taken) in simp t
+returns c =
+    let A = c .before .before .args in
+    sym (ap (λ (b : Bool). b && A .x ≺ A .y) (sym (c .before .is-finite .ensures) ∙ c .if1 .taken))
 
 returns-2 : tie.Need-returns-2
 returns-2 c = search needs

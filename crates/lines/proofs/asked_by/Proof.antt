@@ -1,5 +1,4 @@
 -- `lines::asked_by`: an arm for each frame. Assumes nothing.
-use mathlib.Core.Path.{sym, ap, _∙_}
 use Rattle.lines.specs.Hear.{askedBy}
 use borrow.Author.Needs.{needs}
 use Rattle.lines.proofs.asked_by.Statement.{statement}
@@ -35,11 +34,11 @@ returns c = rw (c .before .frame .given .1)
 
 returns-2 : tie.Need-returns-2
 unfolding askedBy
-returns-2 c = c .priced .ensures ∙ sym (ap askedBy (c .before .before .frame2 .given .1))
+returns-2 c = rw (c .before .before .frame2 .given .1) (c .priced .ensures)
 
 returns-3 : tie.Need-returns-3
 unfolding askedBy
-returns-3 c = c .priced2 .ensures ∙ sym (ap askedBy (c .before .before .frame3 .given .1))
+returns-3 c = rw (c .before .before .frame3 .given .1) (c .priced2 .ensures)
 
 returns-4 : tie.Need-returns-4
 unfolding askedBy

@@ -1,6 +1,6 @@
 -- `normal::series_pair`: both sums as in `series`, with one count of rounds; the loop ends early where both are settled. Assumes nothing.
 use mathlib.Core.Path.{_≡_, refl}
-use Prim.Native.Nat.{_≤_, _-_}
+use Prim.Native.Nat.{_≤_, _<_, _-_}
 use native.Mathlib.Omega.{arith}
 use borrow.Author.Needs.{needs}
 use lib.Ieee.{ofBits, round, ofInt}
@@ -44,10 +44,10 @@ returns c =
     let inv = l .inv in
     let s = c .before .before .settled in
     let t = c .before .settled2 in
-    let early = c .before .before .before .before .loop-test .taken in
+    let early : l .k < 40 = omega (arith, c .before .before .before .before .loop-test .taken) in
     let p = last-sum (args .x) (l .g) (l .a) (l .k) (inv .1) (inv .2) early (s .ensures) (and-left (s .result) (t .result) (c .if1 .taken)) in
     let q = last-sum (args .y) (l .h) (l .b) (l .k) (inv .3) (inv .4) early (t .ensures) (and-right (s .result) (t .result) (c .if1 .taken)) in
-    rw (p, q)
+    simp (p, q)
 
 add-k : tie.Need-add-k Inv-loop μ-loop
 add-k c = omega arith

@@ -1,0 +1,9 @@
+pub mod Table
+pub mod Powers
+pub mod Floors
+pub mod Largest
+pub mod Scaled
+pub mod Mantissas
+pub mod Reciprocals
+pub mod Laws
+pub mod Examples

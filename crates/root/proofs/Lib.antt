@@ -1,0 +1,4 @@
+pub mod Squares
+pub mod Nearest
+pub mod Laws
+pub mod Examples

@@ -1,0 +1,5 @@
+pub mod Root
+pub mod NotANumber
+pub mod Examples
+pub mod Laws
+pub mod Steps
