@@ -14,7 +14,7 @@ EDITS = sorted(f'{file.parent.parent.name}/{file.stem}' for file in ROOT.glob('c
 
 # What the prover says where a fact fails.
 FACTS = {
-    'two sides differ': re.compile(r'the two (?:types|values|sides) (?:first |)(?:differ |)(?:only |)(?:where one has|are) '),
+    'two sides differ': re.compile(r'the two (?:types|values|sides) (?:first |)(?:differ |)(?:only |)(?:where one has|are(?! identical)) '),
     'a computed test is false': re.compile(r' ≟ .*: does not hold'),
     'another statement is proved': re.compile(r'expected type\s+`.*but this has type', re.S),
     'numbers at which it fails': re.compile(r'`omega`: the goal does not follow from what it read\. All of that holds, and the goal fails(?:, at |\.)'),

@@ -16,11 +16,11 @@ use Rattle.floats.proofs.Signs.{nan-is}
 use Rattle.floats.proofs.Minimum.{negative-round}
 use Rattle.floats.proofs.Bounds.{Bounded, Upto, Clear, few-short, bounded-more, round-bound, clear-of, bounded-mul, bounded-add, bounded-sub, int-bound}
 use Rattle.floats.proofs.Bounds.{upto-number, upto-mul, upto-add}
-use Rattle.exponential.specs.Tables.{factorial, E, horner}
-use Rattle.exponential.proofs.Reciprocals.{factorial-pos}
-use Rattle.exponential.specs.Exp.{H, J, overflowLimit, underflowLimit, floor, scaled, remainder, twoTo, expAt, exp}
-use Rattle.exponential.specs.Steps.{inExponent}
-use Rattle.exponential.proofs.Scaled.{in-range, range-exponent}
+use Rattle.elementary.specs.Tables.{factorial, E, horner}
+use Rattle.elementary.proofs.Reciprocals.{factorial-pos}
+use Rattle.elementary.specs.Exp.{H, J, overflowLimit, underflowLimit, floor, scaled, remainder, twoTo, expAt, exp}
+use Rattle.elementary.specs.Steps.{inExponent}
+use Rattle.elementary.proofs.Scaled.{in-range, range-exponent}
 
 -- ---- a sum over a table whose entries are at most 1, of what is at most 2^g
 pub horner-bound : (table : ℕ → Float) (degree g : ℕ) (x : Float) → ((i : ℕ) → Bounded 1074 (table i)) → Bounded (1074 + g) x

@@ -17,10 +17,10 @@ use Rattle.floats.proofs.Minimum.{negative-round}
 use Rattle.floats.proofs.Whole.{units-exact, significand-lt, exponent-fine, pow-le-back}
 use Rattle.floats.proofs.Bounds.{Bounded, Clear, AtLeast, power-short, clear-of, bounded-mul, bounded-add, bounded-sub}
 use Rattle.floats.proofs.Bounds.{bounded-div, least-round, least-add-right, negative-mul, positive-clear, int-bound, exponent-most}
-use Rattle.exponential.specs.Tables.{L, horner}
-use Rattle.exponential.specs.Exp.{H, J}
-use Rattle.exponential.specs.Ln.{mantissa, exponent, ratio, lnAt, lnFrom, ln}
-use Rattle.exponential.proofs.Mantissas.{taken-apart}
+use Rattle.elementary.specs.Tables.{L, horner}
+use Rattle.elementary.specs.Exp.{H, J}
+use Rattle.elementary.specs.Ln.{mantissa, exponent, ratio, lnAt, lnFrom, ln}
+use Rattle.elementary.proofs.Mantissas.{taken-apart}
 use Rattle.bounds.proofs.Exponential.{horner-bound, reciprocal-bound, H-bound, J-bound, one-bound, two-bound, half-bound, half-clear}
 
 -- ---- the exponent: at most 1074, moved by at most 52 places, and by one more

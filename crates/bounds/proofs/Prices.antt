@@ -17,12 +17,12 @@ use Rattle.floats.proofs.Bounds.{bounded-div, least-round, least-mul, least-div
 use Rattle.limits.specs.Ranges.{isSpot, isStrike, isExpiry, isRate, isVolatility}
 use Rattle.limits.proofs.Ranges.{at-least, at-most, spot-positive, expiry-positive, volatility-positive}
 use Rattle.root.specs.Root.{sqrt}
-use Rattle.exponential.specs.Ln.{ln}
-use Rattle.normal.specs.Normal.{cdf}
-use Rattle.greeks.specs.Model.{ofKind, discount, spread, d1, d2, price}
-use Rattle.greeks.specs.declared.OptionType.{OptionType}
-use Rattle.greeks.specs.declared.OptionType.the-variants.{Call, Put}
-use Rattle.greeks.specs.declared.OptionParams.{OptionParams}
+use Rattle.elementary.specs.Ln.{ln}
+use Rattle.gauss.specs.Normal.{cdf}
+use Rattle.blackscholes.specs.Model.{ofKind, discount, spread, d1, d2, price}
+use Rattle.blackscholes.specs.declared.OptionType.{OptionType}
+use Rattle.blackscholes.specs.declared.OptionType.the-variants.{Call, Put}
+use Rattle.blackscholes.specs.declared.OptionParams.{OptionParams}
 use Rattle.bounds.proofs.Exponential.{exp-bound, half-bound}
 use Rattle.bounds.proofs.Logarithm.{ln-bound}
 use Rattle.bounds.proofs.Tail.{cdf-bound}

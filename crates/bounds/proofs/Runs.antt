@@ -22,10 +22,10 @@ use Rattle.brent.specs.Outcome.{Reply, ended, zeros}
 use Rattle.brent.specs.Feed.{over}
 use Rattle.brent.specs.Run.{runWith}
 use Rattle.brent.proofs.Theorem as brent
-use Rattle.greeks.specs.Model.{atVolatility, price}
-use Rattle.greeks.specs.Checks.{optionRefusal, refusal, pricing}
-use Rattle.greeks.specs.Implied.{impliedRefusal, implied}
-use Rattle.greeks.specs.declared.OptionParams.{OptionParams}
+use Rattle.blackscholes.specs.Model.{atVolatility, price}
+use Rattle.blackscholes.specs.Checks.{optionRefusal, refusal, pricing}
+use Rattle.blackscholes.specs.Implied.{impliedRefusal, implied}
+use Rattle.blackscholes.specs.declared.OptionParams.{OptionParams}
 use Rattle.bounds.proofs.Prices.{price-bound}
 
 -- ---- the checks

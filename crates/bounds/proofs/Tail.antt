@@ -17,10 +17,10 @@ use Rattle.floats.proofs.Minimum.{NotBelow}
 use Rattle.floats.proofs.Quotients.{not-below-of}
 use Rattle.floats.proofs.Bounds.{Bounded, Clear, AtLeast, power-short, bounded-more, round-bound, clear-of, bounded-mul, bounded-add, bounded-neg}
 use Rattle.floats.proofs.Bounds.{bounded-sub, bounded-div, least-round, least-add-left, negative-add, negative-square, negative-div, upto-neg}
-use Rattle.exponential.specs.Exp.{exp}
-use Rattle.normal.specs.Erfc.{Series, nextTerm, series, fraction, erfcFromZero, erfc}
-use Rattle.normal.specs.Normal.{cdf}
-use Rattle.normal.proofs.Vanish.{two-least, halved-clear}
+use Rattle.elementary.specs.Exp.{exp}
+use Rattle.gauss.specs.Erfc.{Series, nextTerm, series, fraction, erfcFromZero, erfc}
+use Rattle.gauss.specs.Normal.{cdf}
+use Rattle.gauss.proofs.Vanish.{two-least, halved-clear}
 use Rattle.bounds.proofs.Exponential.{exp-bound, one-bound, two-bound, half-bound}
 
 -- ---- constants

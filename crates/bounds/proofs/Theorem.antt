@@ -1,5 +1,5 @@
 -- Number 11 is out of the model's reach. Assumes nothing.
-use Rattle.greeks.specs.Model.{price}
+use Rattle.blackscholes.specs.Model.{price}
 use Rattle.bounds.specs.Finite.{Finite}
 use Rattle.bounds.proofs.Runs.{price-at-most, finite-price, finite-answer, error-finite, never-11}
 use Rattle.bounds.proofs.Offers.{offer-never-11}

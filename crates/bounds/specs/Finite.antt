@@ -12,10 +12,10 @@ use Rattle.limits.specs.Outcome.{done, refused}
 use Rattle.brent.specs.declared.Solver.{Solver}
 use Rattle.brent.specs.declared.Solution.{Solution}
 use Rattle.brent.specs.Outcome.{ended}
-use Rattle.greeks.specs.Model.{price}
-use Rattle.greeks.specs.Checks.{refusal, pricing}
-use Rattle.greeks.specs.Implied.{implied}
-use Rattle.greeks.specs.declared.OptionParams.{OptionParams}
+use Rattle.blackscholes.specs.Model.{price}
+use Rattle.blackscholes.specs.Checks.{refusal, pricing}
+use Rattle.blackscholes.specs.Implied.{implied}
+use Rattle.blackscholes.specs.declared.OptionParams.{OptionParams}
 use Rattle.ledger.specs.Model.{bsm}
 use Rattle.ledger.specs.declared.Book.{Book}
 use Rattle.ledger.specs.declared.Offer.{Offer}

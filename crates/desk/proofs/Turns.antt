@@ -6,12 +6,12 @@ use mathlib.Core.List.{List, [], _∷_, _++_}
 use native.Mathlib.Omega.{arith}
 use lib.ListN.{length, take, length-take}
 use Rattle.ledger.specs.Book.{Columns}
-use Rattle.lines.specs.Calls.{Turned, turnLeft, turned}
-use Rattle.lines.specs.Turns.{countOf, HadRoom, Held, holds, keeps, heldAfter}
-use Rattle.lines.specs.Claims.{Reads}
-use Rattle.lines.specs.declared.State.{State}
-use Rattle.lines.specs.declared.Step.{Step}
-use Rattle.lines.proofs.Programs.{turned-within, had-room}
+use Rattle.protocol.specs.Calls.{Turned, turnLeft, turned}
+use Rattle.protocol.specs.Turns.{countOf, HadRoom, Held, holds, keeps, heldAfter}
+use Rattle.protocol.specs.Claims.{Reads}
+use Rattle.protocol.specs.declared.State.{State}
+use Rattle.protocol.specs.declared.Step.{Step}
+use Rattle.protocol.proofs.Programs.{turned-within, had-room}
 use Rattle.desk.specs.Served.{partsOf, Heard, Served}
 use Rattle.desk.specs.declared.Going.{Going}
 use Rattle.desk.specs.declared.Got.{Got}

@@ -4,8 +4,8 @@ use mathlib.Core.Path.{_≡_}
 use mathlib.Core.Bool.{Bool, true}
 use mathlib.Core.List.{List, [], _∷_, _++_}
 use lib.ListN.{length, take}
-use Rattle.lines.specs.Turns.{Held, heldAfter}
-use Rattle.lines.specs.Claims.{Reads}
+use Rattle.protocol.specs.Turns.{Held, heldAfter}
+use Rattle.protocol.specs.Claims.{Reads}
 use Rattle.desk.specs.declared.Got.{Got}
 use Rattle.desk.specs.declared.Got.the-variants.{Part, Failed}
 

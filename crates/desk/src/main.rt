@@ -8,14 +8,14 @@ ghost use mathlib.Core.Path.{_≡_};
 ghost use mathlib.Core.List.{[], _∷_};
 ghost use lib.ListN.{length, take};
 ghost use Rattle.ledger.specs.Book.{columnsOf};
-ghost use Rattle.lines.specs.Calls.{fresh};
-ghost use Rattle.lines.specs.Turns.{countOf, HadRoom, holds};
+ghost use Rattle.protocol.specs.Calls.{fresh};
+ghost use Rattle.protocol.specs.Turns.{countOf, HadRoom, holds};
 ghost use Rattle.desk.specs.Served.{partsOf, Within, Heard, Served};
 use libc::STDERR_FILENO;
 use libc::STDIN_FILENO;
 use libc::STDOUT_FILENO;
-use lines::State;
-use lines::Text;
+use protocol::State;
+use protocol::Text;
 
 // What a read gave: so many bytes in the front of the buffer, none of them at the end of the input.
 enum Got {
@@ -54,7 +54,7 @@ fn put_out(text: &[u8], count: usize, out: &[u8]) -> bool
     io::write_all(STDOUT_FILENO, text)
 }
 
-// A buffer of 19 bytes for each byte of a read is never too short for the answers (`roomy` in lines/specs/Claims).
+// A buffer of 19 bytes for each byte of a read is never too short for the answers (`roomy` in protocol/specs/Claims).
 fn write_text(text: Text, out: &[u8]) -> bool
     requires { ⌜ countOf text ≤ length (now out) ⌝ }
     requires { ⌜ HadRoom text ⌝ }

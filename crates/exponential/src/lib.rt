@@ -1,13 +1,13 @@
-// exp and ln on f64, each equal to its definition in specs/ for every input.
+// exp and ln on f64, each equal to its definition of crate `elementary` for every input.
 ghost use mathlib.Core.Path.{_≡_};
 ghost use lib.Dec.{T};
 ghost use lib.Signed.{mag};
 ghost use lib.ListN.{length};
 ghost use Prim.Native.Nat.{_-_, _<_};
-ghost use Rattle.exponential.specs.Tables.{entryOf, polynomial, factorial, oddNumber, lastE, lastL, Ruled};
-ghost use Rattle.exponential.specs.Exp.{exp, floor, twoTo};
-ghost use Rattle.exponential.specs.Ln.{ln, lnAt, lnFrom};
-ghost use Rattle.exponential.specs.Steps.{inExponent, Small};
+ghost use Rattle.elementary.specs.Tables.{entryOf, polynomial, factorial, oddNumber, lastE, lastL, Ruled};
+ghost use Rattle.elementary.specs.Exp.{exp, floor, twoTo};
+ghost use Rattle.elementary.specs.Ln.{ln, lnAt, lnFrom};
+ghost use Rattle.elementary.specs.Steps.{inExponent, Small};
 
 // The f64 nearest 1/i!.
 const E: [f64; 14] = [

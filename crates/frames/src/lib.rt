@@ -5,38 +5,9 @@ ghost use Prim.Native.Nat.{_+_, _*_, _≤_, _<_};
 ghost use lib.Dec.{leb};
 ghost use lib.ListN.{length, take, drop};
 ghost use lib.Ieee.{binary64, ofBits, toBits};
-ghost use Rattle.frames.specs.Hex.{isDigit, digitValue, allDigits, value, float, digit, answerLine};
-ghost use Rattle.frames.specs.Frames.{frameOf};
-ghost use Rattle.frames.specs.Lines.{held, noLine, pushed, taken};
-
-// What a line says.
-pub enum Frame {
-    Open {
-        spot: f64,
-        rate: f64,
-    },
-    Call {
-        strike: f64,
-        expiry: f64,
-        price: f64,
-    },
-    Put {
-        strike: f64,
-        expiry: f64,
-        price: f64,
-    },
-    Vol {
-        strike: f64,
-        expiry: f64,
-        volatility: f64,
-    },
-    Read {
-        strike: f64,
-        expiry: f64,
-    },
-    // refused with 21
-    Bad,
-}
+ghost use Rattle.hex.specs.Hex.{isDigit, digitValue, allDigits, value, float, digit, answerLine};
+ghost use Rattle.hex.specs.Frames.{frameOf};
+use hex::Frame;
 
 // In lo to hi, ends included.
 fn between(lo: u8, hi: u8, b: u8) -> bool
@@ -227,68 +198,4 @@ pub fn answer_line(n: u64, x: f64) -> [u8; 19]
         v = v / 16;
     }
     line
-}
-
-// The part of a line that came so far: its first 51 bytes, and how many they are. A line that fills them is too long for a frame.
-pub struct Line {
-    pub bytes: [u8; 51],
-    pub seen: usize,
-}
-
-pub fn no_line() -> Line
-    ensures { λ r. ⌜ r ≡ noLine ⌝ }
-{
-    Line {
-        bytes: [0u8; 51],
-        seen: 0,
-    }
-}
-
-// One byte more of the line.
-pub fn push(line: Line, b: u8) -> Line
-    ensures { λ r. ⌜ r ≡ pushed line b ⌝ }
-{
-    let mut l = line;
-    let n = l.seen;
-    if n < 51 {
-        l.bytes[n] = b;
-        l.seen = n + 1;
-        return l;
-    }
-    l
-}
-
-// What was taken of the bytes: the line with it, and the place behind it.
-pub struct Taken {
-    pub line: Line,
-    pub next: usize,
-}
-
-// Takes the bytes from a place on into the line, up to a line feed and with it, or to their end.
-pub fn take_line(line: Line, bytes: &[u8], from: usize) -> Taken
-    ensures { λ r. ⌜ r ≡ taken line (now (bytes .entry)) from ⌝ }
-{
-    let mut l = line;
-    let mut i = from;
-    while i < bytes.len() {
-        let b = bytes[i];
-        i += 1;
-        if b == b'\n' {
-            return Taken { line: l, next: i };
-        }
-        l = push(l, b);
-    }
-    Taken { line: l, next: i }
-}
-
-// The frame of a line that has ended.
-pub fn line_frame(line: Line) -> Frame
-    ensures { λ r. ⌜ r ≡ frameOf (held line) ⌝ }
-{
-    let n = line.seen;
-    if n > 50 {
-        return Frame::Bad;
-    }
-    let bytes = line.bytes;
-    frame_of(&bytes[..n])
 }

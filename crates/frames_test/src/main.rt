@@ -1,7 +1,7 @@
-// A test of crate frames: for each line of the input, read seven bytes at a time, its kind with each of its floats, or 21 for a bad line.
-use frames::Frame;
-use frames::Line;
-use frames::Taken;
+// A test of crates frames and streams: for each line of the input, read seven bytes at a time, its kind with each of its floats, or 21 for a bad line.
+use hex::Frame;
+use hex::Line;
+use hex::Taken;
 use libc::STDIN_FILENO;
 use libc::STDOUT_FILENO;
 
@@ -59,8 +59,8 @@ fn ended(line: Line, chunk: &[u8], next: usize) -> Line {
     if chunk[next - 1] != b'\n' {
         return line;
     }
-    show(frames::line_frame(line));
-    frames::no_line()
+    show(streams::line_frame(line));
+    streams::no_line()
 }
 
 // What is left of the chunk, up to a line feed.
@@ -68,7 +68,7 @@ fn take_on(t: Taken, chunk: &[u8]) -> Taken {
     if t.next >= chunk.len() {
         return t;
     }
-    let u = frames::take_line(t.line, chunk, t.next);
+    let u = streams::take_line(t.line, chunk, t.next);
     let line = ended(u.line, chunk, u.next);
     Taken { line, next: u.next }
 }
@@ -102,7 +102,7 @@ fn read_some(line: Line) -> Turn {
 
 fn main() {
     let mut t = Turn {
-        line: frames::no_line(),
+        line: streams::no_line(),
         more: true,
     };
     let mut turns = u64::MAX;
@@ -113,6 +113,6 @@ fn main() {
     let rest = t.line;
     let n = rest.seen;
     if n > 0 {
-        show(frames::line_frame(rest));
+        show(streams::line_frame(rest));
     }
 }

@@ -1,6 +1,1 @@
-pub mod Model
-pub mod Greeks
 pub mod Prepared
-pub mod Checks
-pub mod Implied
-pub mod Claim

@@ -2,9 +2,9 @@
 use mathlib.Core.Path.{_≡_}
 use Rattle.floats.specs.Operators.{_⊘_}
 use Rattle.root.specs.Root.{sqrt}
-use Rattle.exponential.specs.Ln.{ln}
-use Rattle.greeks.specs.Model.{discount, d1, d2}
-use Rattle.greeks.specs.declared.OptionParams.{OptionParams}
+use Rattle.elementary.specs.Ln.{ln}
+use Rattle.blackscholes.specs.Model.{discount, d1, d2}
+use Rattle.blackscholes.specs.declared.OptionParams.{OptionParams}
 use Rattle.greeks.specs.declared.Prepared.{Prepared}
 use Rattle.greeks.specs.declared.Deviates.{Deviates}
 

@@ -2,13 +2,13 @@
 // answered (number, evaluations, the value's bits) and ok or MISMATCH; after each kind of record, its totals. vectors.py makes the records and says
 // what a line holds and where the expected values are from.
 ghost use Prim.Native.Nat.{_+_, _≤_, _<_};
+use blackscholes::Greeks;
+use blackscholes::Implied;
+use blackscholes::OptionParams;
+use blackscholes::OptionType;
+use blackscholes::Priced;
+use blackscholes::Sensitivities;
 use brent::Solution;
-use greeks::Greeks;
-use greeks::Implied;
-use greeks::OptionParams;
-use greeks::OptionType;
-use greeks::Priced;
-use greeks::Sensitivities;
 use libc::STDOUT_FILENO;
 
 // What a call answered. A refusal's value is 0.0.

@@ -15,11 +15,11 @@ use Rattle.brent.specs.declared.Solution.{Solution}
 use Rattle.brent.specs.Outcome.{ended, zeros}
 use Rattle.brent.specs.Feed.{over as finished}
 use Rattle.brent.specs.Run.{runWith}
-use Rattle.greeks.specs.Model.{atVolatility, price}
-use Rattle.greeks.specs.Greeks.{greeks}
-use Rattle.greeks.specs.Checks.{refusal, pricing, noGreeks, sensitivities}
-use Rattle.greeks.specs.Implied.{impliedRefusal, implied}
-use Rattle.greeks.specs.declared.OptionParams.{OptionParams}
+use Rattle.blackscholes.specs.Model.{atVolatility, price}
+use Rattle.blackscholes.specs.Greeks.{greeks}
+use Rattle.blackscholes.specs.Checks.{refusal, pricing, noGreeks, sensitivities}
+use Rattle.blackscholes.specs.Implied.{impliedRefusal, implied}
+use Rattle.blackscholes.specs.declared.OptionParams.{OptionParams}
 use Rattle.grid.specs.Readings.{reading}
 use Rattle.ledger.specs.Book.{endOf}
 use Rattle.ledger.specs.Calls.{Ended}

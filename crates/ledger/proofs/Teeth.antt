@@ -15,7 +15,7 @@ use Rattle.limits.specs.Outcome.{Outcome, done, refused, isDone, numberOf, valu
 use Rattle.brent.specs.declared.Solution.{Solution}
 use Rattle.brent.specs.Outcome.{ended, zeros}
 use Rattle.brent.specs.Feed.{over}
-use Rattle.greeks.specs.declared.OptionType.{OptionType}
+use Rattle.blackscholes.specs.declared.OptionType.{OptionType}
 use Rattle.chart.specs.Quotes.{Quote}
 use Rattle.chart.specs.Build.{Lengths}
 use Rattle.ledger.specs.Model.{Opening, Model, pricesOf}

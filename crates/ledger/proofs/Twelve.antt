@@ -3,8 +3,8 @@ use mathlib.Core.Path.{_≡_, refl}
 use lib.Ieee.{lt, sub, round}
 use Rattle.floats.specs.Values.{magnitude}
 use Rattle.root.proofs.Examples as root
-use Rattle.exponential.proofs.Examples as exponential
-use Rattle.normal.proofs.Examples as normal
+use Rattle.elementary.proofs.Examples as exponential
+use Rattle.gauss.proofs.Examples as normal
 use Rattle.brent.proofs.Examples as brent
 use Rattle.gaps.proofs.Examples.{row-filled}
 use Rattle.grid.specs.Search.{firstWhere}

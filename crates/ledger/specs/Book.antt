@@ -14,7 +14,7 @@ use Rattle.brent.specs.Feed.{mostEvaluations}
 use Rattle.brent.specs.Run.{runWith}
 pub use Rattle.chart.specs.Quotes.{Columns, columnsOf}
 unfoldable pub use Rattle.chart.specs.Quotes.{isShort}
-use Rattle.greeks.specs.declared.OptionType.{OptionType}
+use Rattle.blackscholes.specs.declared.OptionType.{OptionType}
 use Rattle.ledger.specs.Model.{Opening, Model, pricesOf, badPrice, badVolatility}
 use Rattle.ledger.specs.declared.Book.{Book}
 use Rattle.ledger.specs.declared.Offer.{Offer}

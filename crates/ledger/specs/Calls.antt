@@ -5,7 +5,7 @@ use mathlib.Core.Path.{_≡_}
 use Rattle.limits.specs.Outcome.{Outcome, done, refused}
 use Rattle.brent.specs.declared.Solution.{Solution}
 use Rattle.brent.specs.Feed.{mostEvaluations}
-use Rattle.greeks.specs.Implied.{outcomeOfImplied}
+use Rattle.blackscholes.specs.Implied.{outcomeOfImplied}
 use Rattle.ledger.specs.Model.{Model}
 use Rattle.ledger.specs.Book.{Columns, isShort, offerOutcome, bookAfter, columnsAfter}
 use Rattle.ledger.specs.declared.Book.{Book}

@@ -22,7 +22,7 @@ use Rattle.chart.specs.Axis.{place}
 use Rattle.chart.specs.Cells.{axes, count, mean}
 use Rattle.chart.specs.Meaning.{sumTo}
 use Rattle.chart.specs.Build.{Lengths, lengths, noLengths}
-use Rattle.greeks.specs.declared.OptionType.{OptionType}
+use Rattle.blackscholes.specs.declared.OptionType.{OptionType}
 use Rattle.ledger.specs.Model.{Opening, Model}
 use Rattle.ledger.specs.Fold.{after, along, Each}
 use Rattle.ledger.specs.Tally.{Tally, fresh as noQuotes, quoteOf, step, tally}

@@ -2,8 +2,8 @@
 use mathlib.Core.Bool.{Bool, false, not}
 use lib.Ieee.{Float}
 use Rattle.limits.specs.Ranges.{isPrice, isVolatility}
-use Rattle.greeks.specs.Model.{price}
-use Rattle.greeks.specs.declared.OptionType.{OptionType}
+use Rattle.blackscholes.specs.Model.{price}
+use Rattle.blackscholes.specs.declared.OptionType.{OptionType}
 use Rattle.ledger.specs.declared.Offer.{Offer}
 use Rattle.ledger.specs.declared.Terms.{Terms}
 use Rattle.ledger.specs.declared.Terms.the-variants.{Volatility, Price}

@@ -11,11 +11,11 @@ use Rattle.limits.specs.Checks.{none}
 use Rattle.limits.specs.Outcome.{Outcome, done, refused, numberOf, valuesOf}
 use Rattle.brent.specs.declared.Solution.{Solution}
 use Rattle.brent.specs.Outcome.{zeros}
-use Rattle.greeks.specs.declared.OptionType.{OptionType}
-use Rattle.greeks.specs.declared.OptionType.the-variants.{Call, Put}
-use Rattle.greeks.specs.declared.OptionParams.{OptionParams}
-use Rattle.greeks.specs.declared.Greeks.{Greeks}
-use Rattle.greeks.specs.Model.{price}
+use Rattle.blackscholes.specs.declared.OptionType.{OptionType}
+use Rattle.blackscholes.specs.declared.OptionType.the-variants.{Call, Put}
+use Rattle.blackscholes.specs.declared.OptionParams.{OptionParams}
+use Rattle.blackscholes.specs.declared.Greeks.{Greeks}
+use Rattle.blackscholes.specs.Model.{price}
 use Rattle.chart.specs.declared.Built.{Built}
 use Rattle.chart.specs.declared.Built.the-variants as Built
 use Rattle.ledger.specs.Model.{Opening, bsm, volatility, priced}

@@ -12,7 +12,7 @@ use Rattle.limits.specs.Outcome.{done, refused}
 use Rattle.brent.specs.Outcome.{Reply, asking, ended}
 use Rattle.brent.specs.Run.{runWith}
 use Rattle.chart.specs.Quotes.{Quote}
-use Rattle.greeks.specs.declared.OptionType.{OptionType}
+use Rattle.blackscholes.specs.declared.OptionType.{OptionType}
 use Rattle.ledger.specs.Fold.{after}
 use Rattle.ledger.specs.Model.{Opening, Model}
 use Rattle.ledger.specs.declared.Offer.{Offer}

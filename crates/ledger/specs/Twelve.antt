@@ -7,9 +7,9 @@ use lib.Ieee.{Float, nan, neg}
 use Rattle.floats.specs.Operators.{decimal}
 use Rattle.limits.specs.Outcome.{done, refused}
 use Rattle.root.specs.Root.{sqrt}
-use Rattle.exponential.specs.Exp.{exp}
-use Rattle.exponential.specs.Ln.{ln}
-use Rattle.normal.specs.Normal.{cdf}
+use Rattle.elementary.specs.Exp.{exp}
+use Rattle.elementary.specs.Ln.{ln}
+use Rattle.gauss.specs.Normal.{cdf}
 use Rattle.brent.specs.Outcome.{ended, zeros}
 use Rattle.brent.specs.Feed.{over}
 use Rattle.brent.specs.Run.{run}

@@ -1,29 +1,27 @@
 -- What the private functions reach, as what the public ones leave. Assumes nothing.
-use mathlib.Core.Path.{_≡_, refl, sym, ap, _∙_}
-use mathlib.Core.Bool.{true, false}
-use mathlib.Core.List.{List, [], _∷_, _++_}
+use mathlib.Core.Path.{_≡_, sym, ap, _∙_}
+use mathlib.Core.List.{List, _++_}
 use Prim.Native.Nat.{ℕ, _*_, _/_, _≤_, _<_}
 use native.Mathlib.Omega.{arith}
-use borrow.Author.Tests.{le-ltb}
-use lib.Dec.{ltb}
 use lib.ListN.{length, drop, take-append-drop}
 use Rattle.ledger.specs.Book.{Columns}
 use Rattle.ledger.specs.Claim.{Ledger}
 use Rattle.ledger.specs.declared.Book.{Book}
-use Rattle.frames.specs.Lines.{unended, held, noLine, feeds}
-use Rattle.frames.specs.Session.{Session, feed, finish}
-use Rattle.frames.specs.Moves.{Place, sessionOf}
-use Rattle.frames.specs.declared.Line.{Line}
-use Rattle.frames.proofs.Moves.{text-size}
-use Rattle.lines.specs.Hear.{ledger, hears}
-use Rattle.lines.specs.Calls.{session, lineAfter, state, Left, left, wrote, ifRoom, fed, finished, turned}
+use Rattle.hex.specs.Lines.{unended, held, noLine, feeds}
+use Rattle.hex.specs.Session.{Session, feed, finish}
+use Rattle.hex.specs.Moves.{Place, sessionOf}
+use Rattle.hex.specs.declared.Line.{Line}
+use Rattle.hex.proofs.Moves.{text-size}
+use Rattle.protocol.specs.Hear.{ledger, hears}
+use Rattle.protocol.specs.Calls.{session, lineAfter, state, left, wrote, fed, finished}
 use Rattle.lines.specs.Moves.{place}
-use Rattle.lines.specs.declared.State.{State}
+use Rattle.protocol.specs.declared.State.{State}
 use Rattle.lines.specs.declared.Progress.{Progress}
-use Rattle.lines.specs.declared.Fed.{Fed}
-use Rattle.lines.specs.declared.Text.the-variants.{Written, Short}
-use Rattle.lines.proofs.Lengths.{too-short}
-use Rattle.lines.proofs.Going.{Goes}
+use Rattle.protocol.specs.declared.Fed.{Fed}
+use Rattle.protocol.specs.declared.Text.the-variants.{Written, Short}
+use Rattle.protocol.proofs.Lengths.{too-short}
+use Rattle.protocol.proofs.Going.{Goes}
+use Rattle.protocol.proofs.Rooms.{no-room, with-room}
 
 -- ---- the buffer at the end
 
@@ -40,17 +38,6 @@ all-written to line p r c out g =
     same (ap (λ (z : Session Ledger). z .book .book) s) (g .held) n (ap (λ (z : Session Ledger). z .book .columns) s)
     (sym (take-append-drop (r .at) out) ∙ ap (λ (z : List ℕ). z ++ drop (r .at) out) (ap (λ (z : Session Ledger). z .text) s)
     ∙ ap (λ (z : List ℕ). to .text ++ z) (m .rest ∙ ap (λ (k : ℕ). drop k (p .out)) n))
-
--- ---- with room, and without
-
-pub no-room : (n : ℕ) (s : State) (c : Columns) (out : List ℕ) (x : Left) → ltb (length out) (19 * n) ≡ true →
-    left (record { state = s; text = Short n }) c out ≡ ifRoom n s c out x
-unfolding ifRoom
-no-room n s c out x h = rw h
-
-pub with-room : (n : ℕ) (s : State) (c : Columns) (out : List ℕ) (x : Left) → 19 * n ≤ length out → ifRoom n s c out x ≡ x
-unfolding ifRoom
-with-room n s c out x h = rw (le-ltb (length out) (19 * n) h)
 
 -- ---- the two calls
 
@@ -97,17 +84,3 @@ end-finished s c out n p₀ p c' out' r e h b to w =
     rw w
     (all-written (finish hears (session s c)) noLine (begin s c out) p c' out' g
     ∙ sym (with-room (length (unended (held (s .line)))) s c out _ (omega arith)))
-
--- ---- a turn: the end of the input, or a chunk of it
-
-pub at-end : (s : State) (c : Columns) (part out : List ℕ) (x : Left) → length part ≡ 0 → x ≡ finished s c out →
-    record { left = x; more = turned s c [] out .more } ≡ turned s c part out
-unfolding turned
-at-end s c [] out x n e = ap (λ (z : Left). record { left = z; more = turned s c [] out .more }) e
-at-end s c (b ∷ bs) out x n e = absurd (omega (arith, n))
-
-pub at-chunk : (s : State) (c : Columns) (part out : List ℕ) (x : Left) → (length part ≡ 0 → ⊥) → x ≡ fed s c part out →
-    record { left = x; more = true } ≡ turned s c part out
-unfolding turned
-at-chunk s c [] out x n e = absurd (n refl)
-at-chunk s c (b ∷ bs) out x n e = ap (λ (z : Left). record { left = z; more = true }) e

@@ -1,8 +1,2 @@
-pub mod Hearing
-pub mod Lengths
-pub mod Going
+pub mod Turning
 pub mod Leaving
-pub mod Numbers
-pub mod Blank
-pub mod Programs
-pub mod Claims

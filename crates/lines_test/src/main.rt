@@ -5,9 +5,9 @@ ghost use Prim.Native.Nat.{_≤_};
 ghost use lib.ListN.{length};
 use libc::STDIN_FILENO;
 use libc::STDOUT_FILENO;
-use lines::Fed;
-use lines::State;
-use lines::Text;
+use protocol::Fed;
+use protocol::State;
+use protocol::Text;
 
 // The program's state, the last answer, and how many times it came in a row.
 struct Run {

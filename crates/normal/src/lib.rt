@@ -1,10 +1,10 @@
-// erfc, pdf and cdf on f64, each equal to its definition in specs/ for every input.
+// erfc, pdf and cdf on f64, each equal to its definition of crate `gauss` for every input.
 ghost use mathlib.Core.Path.{_≡_};
 ghost use mathlib.Core.Bool.{true, false};
 ghost use Rattle.floats.specs.Operators.{decimal, _≺_};
-ghost use Rattle.normal.specs.Erfc.{series, terms, fraction, levels, erfc, erfcFromZero};
-ghost use Rattle.normal.specs.Normal.{pdf, cdf};
-ghost use Rattle.normal.specs.Steps.{settled, upright, mirrored};
+ghost use Rattle.gauss.specs.Erfc.{series, terms, fraction, levels, erfc, erfcFromZero};
+ghost use Rattle.gauss.specs.Normal.{pdf, cdf};
+ghost use Rattle.gauss.specs.Steps.{settled, upright, mirrored};
 ghost use Rattle.normal.specs.Pairs.{both};
 
 // Whether round n left the sum as it was for good: each later term is at most g, since w is at most 8 and each later divisor above 8.

@@ -2,15 +2,15 @@
 // program computes the answer anew and compares, and writes each line that differs and the totals by kind. oracle/src/bin/sample.rs writes the sample and
 // says what a line holds.
 ghost use Prim.Native.Nat.{_+_, _*_, _≤_, _<_};
+use blackscholes::Greeks;
+use blackscholes::Implied;
+use blackscholes::OptionParams;
+use blackscholes::OptionType;
+use blackscholes::Priced;
+use blackscholes::Sensitivities;
 use brent::Solution;
 use chart::Built;
 use gaps::Filling;
-use greeks::Greeks;
-use greeks::Implied;
-use greeks::OptionParams;
-use greeks::OptionType;
-use greeks::Priced;
-use greeks::Sensitivities;
 use grid::Reading;
 use libc::STDOUT_FILENO;
 

@@ -8,7 +8,7 @@ use native.Mathlib.Numerals.{add-one}
 use native.Mathlib.Nat.{le-of-suc-le-suc, not-suc-le-zero}
 use lib.ListN.{length, getD, set}
 use lib.Ieee.{Float}
-use Rattle.greeks.specs.Implied.{outcomeOfImplied}
+use Rattle.blackscholes.specs.Implied.{outcomeOfImplied}
 use Rattle.grid.specs.Layout.{values}
 use Rattle.ledger.specs.Model.{bsm}
 use Rattle.ledger.specs.Book.{Columns}

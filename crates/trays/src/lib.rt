@@ -2,13 +2,13 @@
 ghost use mathlib.Core.Path.{_≡_};
 ghost use Prim.Native.Nat.{_<_, _≤_, min};
 ghost use lib.ListN.{length};
-ghost use Rattle.greeks.specs.Implied.{outcomeOfImplied};
+ghost use Rattle.blackscholes.specs.Implied.{outcomeOfImplied};
 ghost use Rattle.ledger.specs.Book.{columnsOf};
 ghost use Rattle.ledger.specs.Build.{buffersOf};
 ghost use Rattle.trays.specs.Tray.{kindOf, termsOf, offerOf, offers, numbersOf, evidenceOf, answers, HearsAll, shortest, lent, heardOffers, QuotesTray};
+use blackscholes::Implied;
+use blackscholes::OptionType;
 use chart::Built;
-use greeks::Implied;
-use greeks::OptionType;
 use ledger::Book;
 use ledger::Offer;
 use ledger::Opened;

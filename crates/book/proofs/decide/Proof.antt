@@ -2,8 +2,8 @@
 use Prim.Native.Nat.{ℕ, _<_}
 use mathlib.Core.Path.{_≡_, sym, ap, _∙_, subst}
 use native.Mathlib.Omega.{arith}
-use Rattle.greeks.specs.Implied.{outcomeOfImplied}
-use Rattle.greeks.specs.declared.Implied.{Implied}
+use Rattle.blackscholes.specs.Implied.{outcomeOfImplied}
+use Rattle.blackscholes.specs.declared.Implied.{Implied}
 use Rattle.ledger.specs.Model.{bsm}
 use Rattle.limits.specs.Checks.{none}
 use Rattle.ledger.specs.Book.{offerRefusal, offerOutcome, bookAfter}

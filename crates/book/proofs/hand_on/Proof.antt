@@ -3,8 +3,8 @@ use mathlib.Core.Path.{sym, ap, subst}
 use native.Mathlib.Omega.{arith}
 use borrow.Author.Tests.{lt-leb}
 use Rattle.brent.specs.Outcome.{zeros}
-use Rattle.greeks.specs.Implied.{outcomeOfImplied}
-use Rattle.greeks.specs.declared.Implied.{Implied}
+use Rattle.blackscholes.specs.Implied.{outcomeOfImplied}
+use Rattle.blackscholes.specs.declared.Implied.{Implied}
 use Rattle.ledger.specs.Book.{bookAfter}
 use Rattle.ledger.specs.Calls.{Turned}
 use Rattle.ledger.proofs.Sound.{bounds-of}

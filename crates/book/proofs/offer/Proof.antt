@@ -1,7 +1,7 @@
 -- `book::offer`: what was decided, and where it was found the columns filed at index kept. Assumes nothing.
 use mathlib.Core.Path.{_≡_, sym, ap, _∙_}
 use Rattle.limits.specs.Outcome.{done}
-use Rattle.greeks.specs.Implied.{outcomeOfImplied}
+use Rattle.blackscholes.specs.Implied.{outcomeOfImplied}
 use Rattle.ledger.specs.Model.{bsm}
 use Rattle.ledger.specs.Book.{Columns, columnsOf, isShort, offerOutcome, columnsAfter}
 use Rattle.ledger.specs.Calls.{Replies}

@@ -3,7 +3,7 @@ use mathlib.Core.Path.{refl}
 use native.Mathlib.Omega.{arith}
 use borrow.Author.Tests.{le-leb, lt-leb}
 use Rattle.brent.specs.Outcome.{zeros}
-use Rattle.greeks.specs.Implied.{outcomeOfImplied}
+use Rattle.blackscholes.specs.Implied.{outcomeOfImplied}
 use Rattle.ledger.specs.Book.{bookAfter}
 use Rattle.ledger.proofs.Sound.{bounds-of}
 use Rattle.book.proofs.refuse.Statement.{statement}

@@ -4,8 +4,8 @@ use native.Mathlib.Omega.{arith}
 use borrow.Author.Needs.{needs}
 use lib.ListN.{length}
 use Rattle.ledger.specs.Book.{columnsOf}
-use Rattle.lines.specs.Calls.{fresh}
-use Rattle.lines.specs.Turns.{holds}
+use Rattle.protocol.specs.Calls.{fresh}
+use Rattle.protocol.specs.Turns.{holds}
 use Rattle.desk.specs.Served.{Served}
 use Rattle.desk.proofs.Turns.{at-first, and-then}
 use Rattle.desk.proofs.serve.Statement.{statement}

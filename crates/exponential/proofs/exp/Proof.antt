@@ -10,12 +10,12 @@ use lib.Ieee.Compare.{differs-from-itself, nan-differs}
 use mir.Syntax.{w64}
 use mir.Val.{toZ, ofZ, SFits}
 use mir.ValLaws.{toZ-ofZ}
-use Rattle.exponential.specs.Exp.{scaled, exp, expAt, floor}
-use Rattle.exponential.specs.Steps.{inExponent}
-use Rattle.exponential.proofs.Reciprocals.{sum-E}
-use Rattle.exponential.proofs.Floors.{few-in-float}
-use Rattle.exponential.proofs.Laws.{exp-above, exp-below, exp-else}
-use Rattle.exponential.proofs.Scaled.{InRange, in-range, range-small, range-exponent}
+use Rattle.elementary.specs.Exp.{scaled, exp, expAt, floor}
+use Rattle.elementary.specs.Steps.{inExponent}
+use Rattle.elementary.proofs.Reciprocals.{sum-E}
+use Rattle.elementary.proofs.Floors.{few-in-float}
+use Rattle.elementary.proofs.Laws.{exp-above, exp-below, exp-else}
+use Rattle.elementary.proofs.Scaled.{InRange, in-range, range-small, range-exponent}
 use Rattle.exponential.proofs.exp.Statement.{statement}
 use Rattle.exponential.proofs.exp.Tie as tie
 

@@ -6,8 +6,8 @@ use lib.Ieee.{Float, binary64, lt, ofInt, toSigned}
 use mir.Syntax.{w64}
 use mir.Val.{toZ, ofZ}
 use mir.ValLaws.{toZ-ofZ}
-use Rattle.exponential.specs.Steps.{Small}
-use Rattle.exponential.proofs.Floors.{cutOf, cut-is, cut-mag, few-in-float, cut-fits, cut-less-fits, small-low, small-high, floor-above, floor-level}
+use Rattle.elementary.specs.Steps.{Small}
+use Rattle.elementary.proofs.Floors.{cutOf, cut-is, cut-mag, few-in-float, cut-fits, cut-less-fits, small-low, small-high, floor-above, floor-level}
 use Rattle.exponential.proofs.floor.Statement.{statement}
 use Rattle.exponential.proofs.floor.Tie as tie
 

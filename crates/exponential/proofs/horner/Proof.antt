@@ -5,7 +5,7 @@ use native.Mathlib.Omega.{arith}
 use native.Mathlib.Numerals.{add-one}
 use borrow.Author.Needs.{needs}
 use lib.ListN.{length}
-use Rattle.exponential.specs.Tables.{horner, entryOf}
+use Rattle.elementary.specs.Tables.{horner, entryOf}
 use Rattle.exponential.proofs.horner.Statement.{statement}
 use Rattle.exponential.proofs.horner.Tie as tie
 

@@ -21,9 +21,9 @@ use Rattle.floats.specs.Digits.{Digits}
 use Rattle.floats.specs.declared.Parts.{Parts}
 use Rattle.floats.proofs.Digits.{digits-of}
 use Rattle.floats.proofs.Signs.{Negative, Zero, is-negative, is-zero, is-infinity, is-positive}
-use Rattle.exponential.specs.Ln.{ln, lnFrom, mantissa, exponent}
-use Rattle.exponential.proofs.Laws.{at-positive}
-use Rattle.exponential.proofs.Mantissas.{mant-is, expo-is}
+use Rattle.elementary.specs.Ln.{ln, lnFrom, mantissa}
+use Rattle.elementary.proofs.Laws.{at-positive}
+use Rattle.elementary.proofs.Mantissas.{mant-is, expo-is}
 use Rattle.exponential.proofs.ln.Statement.{statement}
 use Rattle.exponential.proofs.ln.Tie as tie
 

@@ -1,13 +1,13 @@
 -- `exponential::ln_at`: e is small enough to be a float, and the sum over the table is `horner`'s. Assumes nothing.
 use mathlib.Core.Path.{sym, _∙_}
-use Rattle.exponential.specs.Ln.{lnAt}
+use Rattle.elementary.specs.Ln.{lnAt}
 use lib.Ieee.{ofBits, round}
 use mir.Syntax.{w64}
 use mir.ValLaws.{toZ-ofZ}
 use native.Mathlib.Omega.{arith}
 use borrow.Author.Needs.{needs}
-use Rattle.exponential.proofs.Reciprocals.{sum-L}
-use Rattle.exponential.proofs.Floors.{few-in-float}
+use Rattle.elementary.proofs.Reciprocals.{sum-L}
+use Rattle.elementary.proofs.Floors.{few-in-float}
 use Rattle.exponential.proofs.ln_at.Statement.{statement}
 use Rattle.exponential.proofs.ln_at.Tie as tie
 

@@ -9,8 +9,8 @@ use lib.Ieee.{ofBits, round}
 use mir.Syntax.{w64}
 use mir.Val.{toZ, ofZ, SFits}
 use mir.ValLaws.{toZ-ofZ}
-use Rattle.exponential.specs.Ln.{lnAt}
-use Rattle.exponential.proofs.Laws.{halved, kept}
+use Rattle.elementary.specs.Ln.{lnAt}
+use Rattle.elementary.proofs.Laws.{halved, kept}
 use Rattle.floats.specs.Operators.{decimal, _⊗_}
 use Rattle.exponential.proofs.ln_from.Statement.{statement}
 use Rattle.exponential.proofs.ln_from.Tie as tie

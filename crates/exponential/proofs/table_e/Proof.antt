@@ -1,9 +1,9 @@
 -- `exponential::table_e`: the array is the table entry by entry, by computation, and so has the table's rule (Table, Reciprocals). Assumes nothing.
 use mathlib.Core.Path.{refl}
 use lib.Ieee.{ofBits, round}
-use Rattle.exponential.specs.Tables.{factorial, E, lastE}
-use Rattle.exponential.proofs.Table.{entries, nearest-in}
-use Rattle.exponential.proofs.Reciprocals.{rules}
+use Rattle.elementary.specs.Tables.{factorial, E, lastE}
+use Rattle.elementary.proofs.Table.{entries, nearest-in}
+use Rattle.elementary.proofs.Reciprocals.{rules}
 use Rattle.exponential.proofs.table_e.Statement.{statement}
 use Rattle.exponential.proofs.table_e.Tie as tie
 

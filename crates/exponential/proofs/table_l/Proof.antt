@@ -1,9 +1,9 @@
 -- `exponential::table_l`: the array is the table entry by entry, by computation, and so has the table's rule (Table, Reciprocals). Assumes nothing.
 use mathlib.Core.Path.{refl}
 use lib.Ieee.{ofBits, round}
-use Rattle.exponential.specs.Tables.{oddNumber, L, lastL}
-use Rattle.exponential.proofs.Table.{entries, nearest-in}
-use Rattle.exponential.proofs.Reciprocals.{rules}
+use Rattle.elementary.specs.Tables.{oddNumber, L, lastL}
+use Rattle.elementary.proofs.Table.{entries, nearest-in}
+use Rattle.elementary.proofs.Reciprocals.{rules}
 use Rattle.exponential.proofs.table_l.Statement.{statement}
 use Rattle.exponential.proofs.table_l.Tie as tie
 

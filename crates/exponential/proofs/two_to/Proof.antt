@@ -7,8 +7,8 @@ use lib.IntN.{ℤ, pos, _+ℤ_}
 use mir.Syntax.{w64}
 use mir.Val.{toZ, ofZ, SFits}
 use mir.ValLaws.{toZ-ofZ}
-use Rattle.exponential.specs.Steps.{inExponent}
-use Rattle.exponential.proofs.Powers.{bias, bias-lt, biased, two-is, two-no-nan}
+use Rattle.elementary.specs.Steps.{inExponent}
+use Rattle.elementary.proofs.Powers.{bias, bias-lt, biased, two-is, two-no-nan}
 use Rattle.exponential.proofs.two_to.Statement.{statement}
 use Rattle.exponential.proofs.two_to.Tie as tie
 

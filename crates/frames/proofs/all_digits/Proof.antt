@@ -4,8 +4,8 @@ use Prim.Native.Nat.{_≤_, _-_}
 use native.Mathlib.Omega.{arith}
 use borrow.Author.Tests.{not-true, not-false}
 use lib.ListN.{length, drop}
-use Rattle.frames.specs.Hex.{allDigits}
-use Rattle.frames.proofs.Digits.{all-step, all-stop, all-end}
+use Rattle.hex.specs.Hex.{allDigits}
+use Rattle.hex.proofs.Digits.{all-step, all-stop, all-end}
 use Rattle.frames.proofs.all_digits.Statement.{statement}
 use Rattle.frames.proofs.all_digits.Tie as tie
 

@@ -4,8 +4,8 @@ use native.Mathlib.Nat.{div-one}
 use native.Mathlib.Omega.{arith}
 use borrow.Author.Needs.{needs}
 use lib.Ieee.{binary64, toBits}
-use Rattle.frames.specs.Hex.{answerLine, decimals, digits}
-use Rattle.frames.proofs.Writing.{Writing, one-more, all-written}
+use Rattle.hex.specs.Hex.{answerLine, decimals, digits}
+use Rattle.hex.proofs.Writing.{Writing, one-more, all-written}
 use Rattle.frames.proofs.answer_line.Statement.{statement}
 use Rattle.frames.proofs.answer_line.Tie as tie
 

@@ -4,7 +4,7 @@ use lib.Dec.{T}
 use borrow.Author.Needs.{needs}
 use lib.Ieee.{toBits}
 use lib.Ieee.Compare.{differs-from-itself}
-use Rattle.frames.proofs.Patterns.{same-no-nan}
+use Rattle.hex.proofs.Patterns.{same-no-nan}
 use Rattle.frames.proofs.bits_of.Statement.{statement}
 use Rattle.frames.proofs.bits_of.Tie as tie
 

@@ -1,7 +1,7 @@
 -- `frames::digit_of`: '0' and on up to 9, 'A' and on from 10. Assumes nothing.
 use borrow.Author.Needs.{needs}
 use borrow.Author.Tests.{le-leb, lt-leb}
-use Rattle.frames.specs.Hex.{digit}
+use Rattle.hex.specs.Hex.{digit}
 use Rattle.frames.proofs.digit_of.Statement.{statement}
 use Rattle.frames.proofs.digit_of.Tie as tie
 

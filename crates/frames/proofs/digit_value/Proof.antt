@@ -1,8 +1,8 @@
 -- `frames::digit_value`: in each range the byte less the range's first, or 10 more. Assumes nothing.
 use mathlib.Core.Path.{sym, _∙_}
 use borrow.Author.Needs.{needs}
-use Rattle.frames.specs.Hex.{between, digitValue}
-use Rattle.frames.proofs.Digits.{above}
+use Rattle.hex.specs.Hex.{between, digitValue}
+use Rattle.hex.proofs.Digits.{above}
 use Rattle.frames.proofs.digit_value.Statement.{statement}
 use Rattle.frames.proofs.digit_value.Tie as tie
 

@@ -1,6 +1,6 @@
 -- `frames::float_at`: the float of the bits that stand there. Assumes nothing.
 use borrow.Author.Needs.{needs}
-use Rattle.frames.specs.Hex.{float}
+use Rattle.hex.specs.Hex.{float}
 use Rattle.frames.proofs.float_at.Statement.{statement}
 use Rattle.frames.proofs.float_at.Tie as tie
 

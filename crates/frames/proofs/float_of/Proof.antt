@@ -2,7 +2,7 @@
 use borrow.Author.Needs.{needs}
 use borrow.Author.Tests.{lt-ltb, le-ltb}
 use lib.Ieee.{div, ofBits}
-use Rattle.frames.proofs.Patterns.{above-is-nan, below-no-nan}
+use Rattle.hex.proofs.Patterns.{above-is-nan, below-no-nan}
 use Rattle.frames.proofs.float_of.Statement.{statement}
 use Rattle.frames.proofs.float_of.Tie as tie
 

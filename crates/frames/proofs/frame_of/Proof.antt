@@ -2,7 +2,7 @@
 use mathlib.Core.Path.{sym, _∙_}
 use borrow.Author.Needs.{needs}
 use borrow.Author.Tests.{not-true, not-false}
-use Rattle.frames.proofs.Parts.{wrong-character, wrong-length}
+use Rattle.hex.proofs.Parts.{wrong-character, wrong-length}
 use Rattle.frames.proofs.frame_of.Statement.{statement}
 use Rattle.frames.proofs.frame_of.Tie as tie
 

@@ -1,6 +1,6 @@
 -- `frames::is_digit`: its two ranges. Assumes nothing.
 use borrow.Author.Needs.{needs}
-use Rattle.frames.specs.Hex.{between, isDigit}
+use Rattle.hex.specs.Hex.{between, isDigit}
 use Rattle.frames.proofs.is_digit.Statement.{statement}
 use Rattle.frames.proofs.is_digit.Tie as tie
 

@@ -2,7 +2,7 @@
 use mathlib.Core.Path.{sym}
 use Prim.Native.Nat.{_<_}
 use borrow.Author.Needs.{needs}
-use Rattle.frames.proofs.Digits.{digit-small, value-of-two}
+use Rattle.hex.proofs.Digits.{digit-small, value-of-two}
 use Rattle.frames.proofs.kind.Statement.{statement}
 use Rattle.frames.proofs.kind.Tie as tie
 

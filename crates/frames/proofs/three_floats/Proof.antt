@@ -2,7 +2,7 @@
 use mathlib.Core.Path.{sym, _∙_}
 use borrow.Author.Needs.{needs}
 use borrow.Author.Tests.{ne-eqb}
-use Rattle.frames.specs.Frames.{isFrame, frameOf}
+use Rattle.hex.specs.Frames.{isFrame, frameOf}
 use Rattle.frames.proofs.three_floats.Statement.{statement}
 use Rattle.frames.proofs.three_floats.Tie as tie
 

@@ -2,7 +2,7 @@
 use borrow.Author.Needs.{needs}
 use borrow.Author.Tests.{ne-eqb}
 use mathlib.Core.Path.{sym, _∙_}
-use Rattle.frames.specs.Frames.{isFrame, frameOf}
+use Rattle.hex.specs.Frames.{isFrame, frameOf}
 use Rattle.frames.proofs.two_floats.Statement.{statement}
 use Rattle.frames.proofs.two_floats.Tie as tie
 

@@ -6,8 +6,8 @@ use native.Mathlib.Omega.{arith}
 use borrow.Author.Needs.{needs}
 use lib.Dec.{lit<}
 use lib.ListN.{drop, take}
-use Rattle.frames.specs.Hex.{valueAfter, value}
-use Rattle.frames.proofs.Digits.{digit-small, value-next, value-done, value-small, value-fits}
+use Rattle.hex.specs.Hex.{valueAfter, value}
+use Rattle.hex.proofs.Digits.{digit-small, value-next, value-done, value-small, value-fits}
 use Rattle.frames.proofs.word.Statement.{statement}
 use Rattle.frames.proofs.word.Tie as tie
 

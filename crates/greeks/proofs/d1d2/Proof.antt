@@ -1,6 +1,6 @@
 -- `greeks::d1d2`: the definitions, with the prepared parts in their places. Assumes nothing.
 use lib.Ieee.{ofBits, round}
-use Rattle.greeks.specs.Model.{spread, d1, d2}
+use Rattle.blackscholes.specs.Model.{spread, d1, d2}
 use Rattle.greeks.proofs.d1d2.Statement.{statement}
 use Rattle.greeks.proofs.d1d2.Tie as tie
 

@@ -2,9 +2,9 @@
 use mathlib.Core.Path.{_≡_, refl}
 use lib.Ieee.{binary64, ofBits, round}
 use Rattle.floats.specs.Operators.{decimal}
-use Rattle.greeks.specs.Model.{discount, spread, d1, d2}
-use Rattle.greeks.specs.Greeks.{greeks}
-use Rattle.greeks.proofs.CallOrPut.{by-kind}
+use Rattle.blackscholes.specs.Model.{discount, spread, d1, d2}
+use Rattle.blackscholes.specs.Greeks.{greeks}
+use Rattle.blackscholes.proofs.CallOrPut.{by-kind}
 use borrow.Author.Needs.{needs}
 use Rattle.greeks.proofs.greeks_of.Statement.{statement}
 use Rattle.greeks.proofs.greeks_of.Tie as tie

@@ -1,5 +1,5 @@
 -- `greeks::implied_number`: line for line the definition. Assumes nothing.
-use Rattle.greeks.specs.Implied.{impliedRefusal}
+use Rattle.blackscholes.specs.Implied.{impliedRefusal}
 use borrow.Author.Needs.{needs}
 use Rattle.greeks.proofs.implied_number.Statement.{statement}
 use Rattle.greeks.proofs.implied_number.Tie as tie

@@ -1,7 +1,7 @@
 -- `greeks::implied_volatility`: the checks first; then the run on the prices of what is prepared. Assumes nothing.
 use mathlib.Core.Path.{_≡_, sym, _∙_}
 use borrow.Author.Tests.{eq-eqb, ne-eqb}
-use Rattle.greeks.specs.Implied.{impliedRefusal, implied, outcomeOfImplied}
+use Rattle.blackscholes.specs.Implied.{impliedRefusal, implied, outcomeOfImplied}
 use borrow.Author.Needs.{needs}
 use Rattle.greeks.proofs.implied_volatility.Statement.{statement}
 use Rattle.greeks.proofs.implied_volatility.Tie as tie

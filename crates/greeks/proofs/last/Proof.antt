@@ -1,6 +1,6 @@
 -- `greeks::last`: of a solver that has ended, Found and Refused carry the answer; one that still asks is excluded. Assumes nothing.
 use borrow.Author.Needs.{needs}
-use Rattle.greeks.proofs.Solving.{last-found, last-refused, still-asking}
+use Rattle.blackscholes.proofs.Solving.{last-found, last-refused, still-asking}
 use Rattle.greeks.proofs.last.Statement.{statement}
 use Rattle.greeks.proofs.last.Tie as tie
 

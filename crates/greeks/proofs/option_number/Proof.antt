@@ -1,5 +1,5 @@
 -- `greeks::option_number`: line for line the definition. Assumes nothing.
-use Rattle.greeks.specs.Checks.{optionRefusal}
+use Rattle.blackscholes.specs.Checks.{optionRefusal}
 use borrow.Author.Needs.{needs}
 use Rattle.greeks.proofs.option_number.Statement.{statement}
 use Rattle.greeks.proofs.option_number.Tie as tie

@@ -1,6 +1,6 @@
 -- `greeks::prepare`: each field is what its call ensures. Assumes nothing.
 use mathlib.Core.Path.{refl}
-use Rattle.greeks.specs.Model.{discount}
+use Rattle.blackscholes.specs.Model.{discount}
 use borrow.Author.Needs.{needs}
 use Rattle.greeks.proofs.prepare.Statement.{statement}
 use Rattle.greeks.proofs.prepare.Tie as tie

@@ -1,5 +1,5 @@
 -- `greeks::refusal_number`: line for line the definition. Assumes nothing.
-use Rattle.greeks.specs.Checks.{refusal}
+use Rattle.blackscholes.specs.Checks.{refusal}
 use borrow.Author.Needs.{needs}
 use Rattle.greeks.proofs.refusal_number.Statement.{statement}
 use Rattle.greeks.proofs.refusal_number.Tie as tie

@@ -6,10 +6,10 @@ use lib.Ieee.{Float}
 use borrow.Author.Needs.{needs}
 use Rattle.brent.specs.Outcome.{outcome}
 use Rattle.brent.specs.Run.{feedWith, runWith}
-use Rattle.greeks.specs.Implied.{Closed}
-use Rattle.greeks.specs.Model.{atVolatility, price}
+use Rattle.blackscholes.specs.Implied.{Closed}
+use Rattle.blackscholes.specs.Model.{atVolatility, price}
 use Rattle.greeks.specs.declared.Prepared.{Prepared}
-use Rattle.greeks.proofs.Solving.{rests, again, nothing-left, run-closed}
+use Rattle.blackscholes.proofs.Solving.{rests, again, nothing-left, run-closed}
 use Rattle.greeks.proofs.solve.Statement.{statement}
 use Rattle.greeks.proofs.solve.Tie as tie
 

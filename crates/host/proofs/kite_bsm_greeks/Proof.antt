@@ -1,6 +1,6 @@
 -- `host::kite_bsm_greeks`: the number and the seven values are those of the answer, and no refusal is 0. Assumes nothing.
 use mathlib.Core.Path.{ap}
-use Rattle.greeks.specs.Checks.{outcomeOfGreeks}
+use Rattle.blackscholes.specs.Checks.{outcomeOfGreeks}
 use Rattle.host.specs.Answers.{greeksEntries}
 use Rattle.host.proofs.Told.{numbered-sensitivities, told-over}
 use borrow.Author.Needs.{needs}

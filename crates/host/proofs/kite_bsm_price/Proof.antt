@@ -1,5 +1,5 @@
 -- `host::kite_bsm_price`: the number and the value are those of the answer, and no refusal is 0. Assumes nothing.
-use Rattle.greeks.specs.Checks.{outcomeOfPrice}
+use Rattle.blackscholes.specs.Checks.{outcomeOfPrice}
 use Rattle.host.proofs.Told.{numbered-pricing, told-same}
 use borrow.Author.Needs.{needs}
 use Rattle.host.proofs.kite_bsm_price.Statement.{statement}

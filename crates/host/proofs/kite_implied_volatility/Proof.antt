@@ -4,7 +4,7 @@ use mathlib.Core.Path.{ap}
 use mathlib.Core.List.{List}
 use lib.Ieee.{ofBits, round}
 use lib.ListN.{getD}
-use Rattle.greeks.specs.Implied.{outcomeOfImplied}
+use Rattle.blackscholes.specs.Implied.{outcomeOfImplied}
 use Rattle.ledger.specs.Book.{endOf}
 use Rattle.trays.specs.Tray.{numbersOf, evidenceOf}
 use Rattle.host.specs.Answers.{written, solvedWritten}

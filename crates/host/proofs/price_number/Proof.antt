@@ -1,5 +1,5 @@
 -- `host::price_number`: an arm for each case. Assumes nothing.
-use Rattle.greeks.specs.Checks.{outcomeOfPrice}
+use Rattle.blackscholes.specs.Checks.{outcomeOfPrice}
 use borrow.Author.Needs.{needs}
 use Rattle.host.proofs.price_number.Statement.{statement}
 use Rattle.host.proofs.price_number.Tie as tie

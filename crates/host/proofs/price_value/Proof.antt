@@ -1,6 +1,6 @@
 -- `host::price_value`: an arm for each case. Assumes nothing.
 use lib.Ieee.{round, ofBits}
-use Rattle.greeks.specs.Checks.{outcomeOfPrice}
+use Rattle.blackscholes.specs.Checks.{outcomeOfPrice}
 use borrow.Author.Needs.{needs}
 use Rattle.host.proofs.price_value.Statement.{statement}
 use Rattle.host.proofs.price_value.Tie as tie

@@ -5,10 +5,11 @@ use native.Mathlib.Omega.{arith}
 use lib.ListN.{length}
 use Rattle.ledger.specs.Book.{Columns, columnsOf}
 use Rattle.ledger.proofs.Lengths.{SameLengths}
-use Rattle.frames.specs.Lines.{cap, feeds}
+use Rattle.hex.specs.Lines.{cap, feeds}
 use Rattle.lines.specs.Moves.{place}
 use Rattle.lines.specs.declared.Progress.{Progress}
-use Rattle.lines.proofs.Going.{Hearing, hearing-start, turn-room, turn, last-turn}
+use Rattle.protocol.proofs.Going.{Hearing, hearing-start}
+use Rattle.lines.proofs.Turning.{turn-room, turn, last-turn}
 use Rattle.lines.proofs.Leaving.{chunk-short, chunk-fed}
 use borrow.Author.Needs.{needs}
 use Rattle.lines.proofs.feed.Statement.{statement}

@@ -4,12 +4,12 @@ use native.Mathlib.Omega.{arith}
 use lib.ListN.{length}
 use Rattle.ledger.specs.Book.{Columns, columnsOf}
 use Rattle.ledger.specs.Claim.{Ledger}
-use Rattle.frames.specs.Lines.{cap, noLine}
-use Rattle.frames.specs.Moves.{Place}
+use Rattle.hex.specs.Lines.{cap, noLine}
+use Rattle.hex.specs.Moves.{Place}
+use Rattle.hex.proofs.Counting.{begun-none, seen-none}
 use Rattle.lines.specs.Moves.{place}
 use Rattle.lines.specs.declared.Progress.{Progress}
-use Rattle.lines.proofs.Going.{goes-last, goes-none}
-use Rattle.lines.proofs.Lengths.{begun-none, seen-none}
+use Rattle.protocol.proofs.Going.{goes-last, goes-none}
 use Rattle.lines.proofs.Leaving.{end-short, end-finished}
 use borrow.Author.Needs.{needs}
 use Rattle.lines.proofs.finish.Statement.{statement}

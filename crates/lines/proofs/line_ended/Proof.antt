@@ -1,7 +1,7 @@
 -- `lines::line_ended`: the frame of the line is heard, and its answer put behind the text. Assumes nothing.
 use Rattle.ledger.specs.Book.{columnsOf}
 use Rattle.lines.specs.Moves.{place}
-use Rattle.lines.proofs.Going.{line-ended}
+use Rattle.protocol.proofs.Going.{line-ended}
 use borrow.Author.Needs.{needs}
 use Rattle.lines.proofs.line_ended.Statement.{statement}
 use Rattle.lines.proofs.line_ended.Tie as tie

@@ -1,8 +1,8 @@
 -- `lines::turn`: an empty part ends the input, any other is heard. Assumes nothing.
 use borrow.Author.Needs.{needs}
 use Rattle.ledger.specs.Book.{columnsOf}
-use Rattle.lines.specs.Calls.{turned}
-use Rattle.lines.proofs.Leaving.{at-end, at-chunk}
+use Rattle.protocol.specs.Calls.{turned}
+use Rattle.protocol.proofs.Rooms.{at-end, at-chunk}
 use Rattle.lines.proofs.turn.Statement.{statement}
 use Rattle.lines.proofs.turn.Tie as tie
 

@@ -1,6 +1,6 @@
 -- `normal::erfc_pair`: erfc of a value below 0 from its mirror image's (`of-upright`). Assumes nothing.
 use borrow.Author.Needs.{needs}
-use Rattle.normal.proofs.Mirror.{of-upright}
+use Rattle.gauss.proofs.Mirror.{of-upright}
 use Rattle.normal.proofs.erfc_pair.Statement.{statement}
 use Rattle.normal.proofs.erfc_pair.Tie as tie
 

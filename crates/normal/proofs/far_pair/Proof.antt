@@ -1,14 +1,14 @@
 -- `normal::far_pair`: two numerators of 0 are the quotients themselves (`vanishes`); else both fractions by `fraction_pair`. Assumes nothing.
 use mathlib.Core.Path.{sym, subst}
 use lib.Dec.{T}
-use Rattle.normal.specs.Erfc.{erfcFromZero}
+use Rattle.gauss.specs.Erfc.{erfcFromZero}
 use lib.Ieee.{ofBits, round, eq}
 use mathlib.Core.Bool.{_&&_}
 use Rattle.floats.specs.Operators.{_≺_}
 use Rattle.floats.proofs.Tests.{and-left, and-right}
 use Rattle.floats.proofs.Signs.{O}
 use borrow.Author.Needs.{needs}
-use Rattle.normal.proofs.Vanish.{over, vanishes}
+use Rattle.gauss.proofs.Vanish.{over, vanishes}
 use Rattle.normal.proofs.far_pair.Statement.{statement}
 use Rattle.normal.proofs.far_pair.Tie as tie
 

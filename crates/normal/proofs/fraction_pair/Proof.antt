@@ -5,7 +5,7 @@ use native.Mathlib.Omega.{arith}
 use native.Mathlib.Numerals.{add-one}
 use borrow.Author.Needs.{needs}
 use lib.Ieee.{ofBits, round, ofInt}
-use Rattle.normal.specs.Erfc.{fraction}
+use Rattle.gauss.specs.Erfc.{fraction}
 use Rattle.normal.proofs.fraction_pair.Statement.{statement}
 use Rattle.normal.proofs.fraction_pair.Tie as tie
 

@@ -1,5 +1,5 @@
 -- `normal::near_pair`: both values from what `series_pair` and `exp` ensure, the literals by computation. Assumes nothing.
-use Rattle.normal.specs.Erfc.{erfcFromZero}
+use Rattle.gauss.specs.Erfc.{erfcFromZero}
 use lib.Ieee.{ofBits, round}
 use borrow.Author.Needs.{needs}
 use Rattle.normal.proofs.near_pair.Statement.{statement}

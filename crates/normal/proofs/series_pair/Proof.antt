@@ -5,8 +5,8 @@ use native.Mathlib.Omega.{arith}
 use borrow.Author.Needs.{needs}
 use lib.Ieee.{ofBits, round, ofInt}
 use Rattle.floats.proofs.Tests.{and-left, and-right}
-use Rattle.normal.specs.Erfc.{series}
-use Rattle.normal.proofs.Later.{next-term, next-sum, last-sum}
+use Rattle.gauss.specs.Erfc.{series}
+use Rattle.gauss.proofs.Later.{next-term, next-sum, last-sum}
 use Rattle.normal.proofs.series_pair.Statement.{statement}
 use Rattle.normal.proofs.series_pair.Tie as tie
 

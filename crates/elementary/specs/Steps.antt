@@ -1,0 +1,17 @@
+-- What the private steps of crate `exponential` promise each other. No meaning of document 01's rests on these.
+use mathlib.Core.Bool.{Bool}
+use Prim.Native.Nat.{_*_, _<_}
+use lib.Dec.{ltb}
+use lib.IntN.{ℤ, pos, negsuc}
+use lib.Ieee.{Float, nan, inf, fin, up, down}
+
+-- k from -1022 to 1023: 2^k is a float
+abbrev pub inExponent : ℤ → Bool
+inExponent (pos n) = ltb n 1024
+inExponent (negsuc n) = ltb n 1022
+
+-- Finite, and below 2048 in size.
+abbrev pub Small : Float → Type 0
+Small nan = ⊥
+Small (inf s) = ⊥
+Small (fin s m e) = m * up e < 2048 * down e

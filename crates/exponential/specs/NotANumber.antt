@@ -1,9 +1,0 @@
--- Document 01: "Not-a-number gives not-a-number."
-use mathlib.Core.Path.{_≡_}
-use lib.Ieee.{nan}
-use Rattle.exponential.specs.Exp.{exp}
-use Rattle.exponential.specs.Ln.{ln}
-
-pub record NotANumber : Type 0 where
-  pub of-exp : exp nan ≡ nan
-  pub of-ln : ln nan ≡ nan

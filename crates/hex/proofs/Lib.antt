@@ -1,0 +1,14 @@
+pub mod Patterns
+pub mod Digits
+pub mod Writing
+pub mod Parts
+pub mod Taking
+pub mod Streams
+pub mod Split
+pub mod Sizes
+pub mod Backward
+pub mod Unique
+pub mod Claims
+pub mod Examples
+pub mod Moves
+pub mod Counting

@@ -1,0 +1,5 @@
+pub mod Hear
+pub mod Calls
+pub mod Moves
+pub mod Turns
+pub mod Claims
