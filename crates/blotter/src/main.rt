@@ -1,6 +1,6 @@
 // The program that `./quote` asks: a line a request, answered by the proved calls with all that they hand out.
 // A line is a name of six characters, padded with spaces, then for each word a space and 16 upper-case hexadecimal digits: a float's bits, or a number.
-// What a name and its words ask, and which figure stands at which place of an answer, is crate `slips`'. An answer has the request's name; behind a build's
+// What a name and its words ask, and which figure stands at which place of an answer, is crate `wording`'s. An answer has the request's name; behind a build's
 // come the values of its axes and, row by row, its cells. Any other line is answered by a question mark.
 // Proved is that it returns and does nothing undefined. No theorem is about the whole input: that each line is answered, once and in order, is held by the
 // program's run, and so is what it reads and writes.
@@ -12,7 +12,7 @@ use ledger::Opened;
 use libc::STDERR_FILENO;
 use libc::STDIN_FILENO;
 use libc::STDOUT_FILENO;
-use slips::Request;
+use wording::Request;
 
 // ---- a line written
 
@@ -125,7 +125,7 @@ fn line_request(line: &[u8; 109], seen: usize) -> Request {
     if !good {
         return Request::Bad;
     }
-    slips::request_of(&name_of(line), n, x)
+    requests::request_of(&name_of(line), n, x)
 }
 
 // ---- a line answered
@@ -303,7 +303,7 @@ fn read(
     expiry_axis: &[f64; 32],
     grid: &[f64; 2048],
 ) -> State {
-    let words = slips::read_words(grid::interpolate(
+    let words = slips::read_words(readings::interpolate(
         strike_axis,
         expiry_axis,
         grid,

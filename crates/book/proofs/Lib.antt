@@ -1,4 +1,1 @@
-pub mod Records
-pub mod Offering
-pub mod Solver
 pub mod Building

@@ -1,6 +1,6 @@
 -- Document 01: "The gap filler, callable on any grid of up to 32 × 64 cells where not-a-number is a gap, checks 2 and 15, then does rows, then
 -- columns by the same sweeps, and writes nothing else."
-use Prim.Native.Nat.{ℕ, zero, suc}
+use Prim.Native.Nat.{ℕ, zero, suc, _≤_, _<_}
 use mathlib.Core.Path.{_≡_}
 use mathlib.Core.Bool.{_||_}
 use mathlib.Core.List.{List, [], _∷_}
@@ -62,6 +62,12 @@ fillRefusal strikes expiries grid =
     first (ltb 64 strikes || ltb 32 expiries) 2
     (first (ltb (length grid) 2048) 15
     none)
+
+-- 01's numbers a second time, each where its check is the first that holds.
+pub record Numbered (strikes expiries : ℕ) (grid : List Float) : Type 0 where
+  pub many-strikes : 64 < strikes → fillRefusal strikes expiries grid ≡ 2
+  pub many-expiries : 32 < expiries → fillRefusal strikes expiries grid ≡ 2
+  pub short-grid : strikes ≤ 64 → expiries ≤ 32 → length grid < 2048 → fillRefusal strikes expiries grid ≡ 15
 
 -- The answer in document 01's terms: it has no values.
 abbrev pub fillOutcome : Filling → Outcome (Unit {0})

@@ -11,7 +11,7 @@ use Rattle.floats.specs.Operators.{decimal}
 use Rattle.limits.specs.Checks.{first}
 use Rattle.limits.specs.Outcome.{done, refused, answered}
 use Rattle.grid.specs.Search.{firstWhere}
-use Rattle.grid.specs.Readings.{fraction, above, bracket, corners, hasGap, bilinear, readRefusal, reading}
+use Rattle.grid.specs.Readings.{fraction, above, bracket, corners, hasGap, bilinear, readRefusal, reading, Passed}
 use Rattle.grid.specs.declared.Span.{Span}
 use Rattle.grid.specs.declared.Corners.{Corners}
 use Rattle.grid.proofs.ReadChecks as checks
@@ -39,7 +39,7 @@ module _ (K E grid : List Float) (strikes expiries : ℕ) (strike expiry : Float
   unfolding reading answered
   read-refused n h k = rw (checks.refused K E grid strikes expiries strike expiry n h k, ne-eqb n 0 k)
 
-  module _ (P : checks.Passed K E grid strikes expiries strike expiry) (s e : Span) (v : Corners)
+  module _ (P : Passed K E grid strikes expiries strike expiry) (s e : Span) (v : Corners)
       (hs : s ≡ bracket (take strikes K) strike) (he : e ≡ bracket (take expiries E) expiry) (hv : v ≡ corners s e grid) where
     pub read-gap : hasGap v ≡ true → refused 20 (decimal 0 1) ≡ reading K E grid strikes expiries strike expiry
     unfolding reading answered first

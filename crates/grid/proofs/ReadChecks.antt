@@ -7,11 +7,11 @@ use native.Mathlib.Omega.{arith}
 use lib.Dec.{ltb}
 use lib.ListN.{length, take}
 use lib.Ieee.{Float}
-use borrow.Author.Tests.{ltb-false, not-false}
+use borrow.Author.Tests.{ltb-false, lt-ltb, le-ltb, not-false}
 use Rattle.limits.specs.Checks.{first, none}
 use Rattle.limits.proofs.Checks.{Rows, none-passes, passes, stays}
-use Rattle.grid.specs.Readings.{isAxis, inside, readRefusal}
-use Rattle.floats.proofs.Tests.{and-left, and-right, or-left-false, or-right-false, split}
+use Rattle.grid.specs.Readings.{isAxis, inside, readRefusal, Passed, Numbered}
+use Rattle.floats.proofs.Tests.{and-left, and-right, or-true, or-left-false, or-right-false, split}
 
 -- 2
 pub small : (s e : ℕ) → (ltb 64 s || ltb 32 e) ≡ false → (s ≤ 64) × (e ≤ 32)
@@ -34,25 +34,6 @@ pub axis-some : (n : ℕ) (l : List Float) → isAxis (take n l) ≡ true → 0 
 unfolding isAxis
 axis-some zero l h = (let z : _≡_ {A = ℕ} 0 1 = cc in let w : ⊥ = omega arith in absurd w)
 axis-some (suc n) l h = omega arith
-
--- no check holds but perhaps the last
-pub record Passed (K E grid : List Float) (strikes expiries : ℕ) (strike expiry : Float) : Type 0 where
-  pub few-strikes : strikes ≤ 64
-  pub few-expiries : expiries ≤ 32
-  pub long-strikes : 64 ≤ length K
-  pub long-expiries : 32 ≤ length E
-  pub long-grid : 2048 ≤ length grid
-  pub some-strikes : 0 < strikes
-  pub some-expiries : 0 < expiries
-  pub number : (gap : Bool) → readRefusal K E grid strikes expiries strike expiry gap ≡ first gap 20 none
-
--- the last two lines, where those before them pass
-pub read-last : (K E grid : List Float) (strikes expiries : ℕ) (strike expiry : Float) → (ltb 64 strikes || ltb 32 expiries) ≡ false
-    → (ltb (length K) 64 || ltb (length E) 32 || ltb (length grid) 2048) ≡ false → (isAxis (take strikes K) && isAxis (take expiries E)) ≡ true
-    → first (not (inside (take strikes K) strike)) 19 (first (not (inside (take expiries E) expiry)) 20 none)
-    ≡ readRefusal K E grid strikes expiries strike expiry false
-unfolding readRefusal first
-read-last K E grid strikes expiries strike expiry a b c = rw (a, b, c, or-false)
 
 module _ (K E grid : List Float) (strikes expiries : ℕ) (strike expiry : Float) (n : ℕ)
     (h : n ≡ readRefusal K E grid strikes expiries strike expiry false) where
@@ -89,6 +70,9 @@ module _ (K E grid : List Float) (strikes expiries : ℕ) (strike expiry : Float
         long-grid = l .2;
         some-strikes = axis-some strikes K (and-left (isAxis (take strikes K)) (isAxis (take expiries E)) a);
         some-expiries = axis-some expiries E (and-right (isAxis (take strikes K)) (isAxis (take expiries E)) a);
+        axes = a;
+        strike-inside = not-false (inside (take strikes K) strike) (p .1 .1 .1 .0);
+        expiry-inside = not-false (inside (take expiries E) expiry) e;
         number = λ gap. rw (p .0, p .1 .0, p .1 .1 .0, p .1 .1 .1 .0, e);
       }
 
@@ -98,3 +82,24 @@ module _ (K E grid : List Float) (strikes expiries : ℕ) (strike expiry : Float
       split outside
       (λ t. rw t (sym (rw t at h)))
       (λ f. rw f (sym (stays rows n (first gap 20 none) (rw f at h) k)))
+
+-- the last two lines, where those before them pass
+pub read-last : (K E grid : List Float) (strikes expiries : ℕ) (strike expiry : Float) → (ltb 64 strikes || ltb 32 expiries) ≡ false
+    → (ltb (length K) 64 || ltb (length E) 32 || ltb (length grid) 2048) ≡ false → (isAxis (take strikes K) && isAxis (take expiries E)) ≡ true
+    → first (not (inside (take strikes K) strike)) 19 (first (not (inside (take expiries E) expiry)) 20 none)
+    ≡ readRefusal K E grid strikes expiries strike expiry false
+unfolding readRefusal first
+read-last K E grid strikes expiries strike expiry a b c = rw (a, b, c, or-false)
+
+-- ---- the numbers
+pub numbered : (K E grid : List Float) (strikes expiries : ℕ) (strike expiry : Float) (gap : Bool) → Numbered K E grid strikes expiries strike expiry gap
+unfolding readRefusal first
+numbered K E grid strikes expiries strike expiry gap =
+    record {
+      many-strikes = λ h. rw (lt-ltb 64 strikes h);
+      many-expiries = λ h. rw (lt-ltb 32 expiries h, or-true (ltb 64 strikes));
+      short-strikes = λ s e h. rw (le-ltb 64 strikes s, le-ltb 32 expiries e, lt-ltb (length K) 64 h);
+      short-expiries = λ s e h. rw (le-ltb 64 strikes s, le-ltb 32 expiries e, lt-ltb (length E) 32 h, or-true (ltb (length K) 64));
+      short-grid = λ s e h. rw (le-ltb 64 strikes s, le-ltb 32 expiries e, lt-ltb (length grid) 2048 h, or-true (ltb (length K) 64 || ltb (length E) 32));
+      no-axis = λ s e k t g h. rw (le-ltb 64 strikes s, le-ltb 32 expiries e, le-ltb (length K) 64 k, le-ltb (length E) 32 t, le-ltb (length grid) 2048 g, h);
+    }

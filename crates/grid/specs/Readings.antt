@@ -1,6 +1,6 @@
 -- Document 01: "Reading checks 2, 15, 18, 19, 20 and follows `interpolate`. The at-the-money reading takes the strike at index n/2, rounded down."
 -- `bracket` and the corners v00, v10, v01, v11 are the Rust's.
-use Prim.Native.Nat.{ℕ, suc, _-_, _/_, _<_}
+use Prim.Native.Nat.{ℕ, suc, _-_, _/_, _≤_, _<_}
 use mathlib.Core.Path.{_≡_}
 use mathlib.Core.Bool.{Bool, true, false, not, _&&_, _||_}
 use mathlib.Core.List.{List, [], _∷_}
@@ -113,3 +113,27 @@ pub data UpperEnd (axis : List Float) (x : Float) (s : Span) : Type 0 where
 pub record Brackets (axis : List Float) (x : Float) (s : Span) : Type 0 where
   pub lower : getD axis (s .lower) nan ≼ x ≡ true
   pub upper : UpperEnd axis x s
+
+-- What a read has that no check turns down but perhaps 20, for a gap: 2 leaves sizes in range, 15 lengths, 18 axes, 19 and 20 a point inside them.
+pub record Passed (K E grid : List Float) (strikes expiries : ℕ) (strike expiry : Float) : Type 0 where
+  pub few-strikes : strikes ≤ 64
+  pub few-expiries : expiries ≤ 32
+  pub long-strikes : 64 ≤ length K
+  pub long-expiries : 32 ≤ length E
+  pub long-grid : 2048 ≤ length grid
+  pub some-strikes : 0 < strikes
+  pub some-expiries : 0 < expiries
+  pub axes : (isAxis (take strikes K) && isAxis (take expiries E)) ≡ true
+  pub strike-inside : inside (take strikes K) strike ≡ true
+  pub expiry-inside : inside (take expiries E) expiry ≡ true
+  pub number : (gap : Bool) → readRefusal K E grid strikes expiries strike expiry gap ≡ first gap 20 none
+
+-- 01's numbers of a read a second time, each where its check is the first that holds.
+pub record Numbered (K E grid : List Float) (strikes expiries : ℕ) (strike expiry : Float) (gap : Bool) : Type 0 where
+  pub many-strikes : 64 < strikes → readRefusal K E grid strikes expiries strike expiry gap ≡ 2
+  pub many-expiries : 32 < expiries → readRefusal K E grid strikes expiries strike expiry gap ≡ 2
+  pub short-strikes : strikes ≤ 64 → expiries ≤ 32 → length K < 64 → readRefusal K E grid strikes expiries strike expiry gap ≡ 15
+  pub short-expiries : strikes ≤ 64 → expiries ≤ 32 → length E < 32 → readRefusal K E grid strikes expiries strike expiry gap ≡ 15
+  pub short-grid : strikes ≤ 64 → expiries ≤ 32 → length grid < 2048 → readRefusal K E grid strikes expiries strike expiry gap ≡ 15
+  pub no-axis : strikes ≤ 64 → expiries ≤ 32 → 64 ≤ length K → 32 ≤ length E → 2048 ≤ length grid
+      → (isAxis (take strikes K) && isAxis (take expiries E)) ≡ false → readRefusal K E grid strikes expiries strike expiry gap ≡ 18

@@ -110,7 +110,7 @@ fn read_surface(
             expiries: n,
         } => reading_said(
             book,
-            grid::interpolate(&strike_axis, &expiry_axis, &grid, m, n, strike, expiry),
+            readings::interpolate(&strike_axis, &expiry_axis, &grid, m, n, strike, expiry),
         ),
         Built::Refused { number } => Said {
             book,

@@ -23,7 +23,7 @@ use Rattle.blackscholes.specs.declared.OptionParams.{OptionParams}
 use Rattle.grid.specs.Readings.{reading}
 use Rattle.ledger.specs.Book.{endOf}
 use Rattle.ledger.specs.Calls.{Ended}
-use Rattle.book.proofs.Solver.{run-ended}
+use Rattle.ledger.proofs.Ends.{run-ended}
 use Rattle.host.specs.Answers.{told, over}
 
 -- A refusal has a number.

@@ -7,26 +7,15 @@ ghost use Rattle.elementary.specs.Exp.{exp};
 ghost use Rattle.elementary.specs.Ln.{ln};
 ghost use Rattle.gauss.specs.Erfc.{erfc};
 ghost use Rattle.gauss.specs.Normal.{pdf, cdf};
-ghost use Rattle.blackscholes.specs.Checks.{outcomeOfPrice, pricing, outcomeOfGreeks, sensitivities, noGreeks};
+ghost use Rattle.blackscholes.specs.Checks.{pricing, sensitivities};
 ghost use Rattle.blackscholes.specs.Implied.{implied};
-ghost use Rattle.grid.specs.Readings.{readOutcome, reading, middleStrike};
-ghost use Rattle.gaps.specs.Gaps.{fillOutcome, FillsGaps};
-ghost use Rattle.chart.specs.Build.{outcome};
+ghost use Rattle.grid.specs.Readings.{reading, middleStrike};
+ghost use Rattle.gaps.specs.Gaps.{FillsGaps};
 ghost use Rattle.ledger.specs.Book.{columnsOf, endOf};
 ghost use Rattle.ledger.specs.Build.{buffersOf};
 ghost use Rattle.trays.specs.Tray.{answers, lent, heardOffers};
-ghost use Rattle.limits.specs.Outcome.{numberOf, valuesOf};
 ghost use Rattle.host.specs.Answers.{told, over, optionOf, greeksEntries, written, solvedWritten};
-ghost use Rattle.host.specs.Calls.{fillingIn, lengthsOf, BuildsFor, bookOf, builtOf, QuotesFor};
-use blackscholes::Greeks;
-use blackscholes::OptionParams;
-use blackscholes::Priced;
-use blackscholes::Sensitivities;
-use chart::Built;
-use gaps::Filling;
-use grid::Reading;
-use ledger::Book;
-use trays::Tray;
+ghost use Rattle.host.specs.Calls.{fillingIn, BuildsFor, QuotesFor};
 
 // ---- the functions of src/normal.rs and what it calls
 
@@ -74,44 +63,6 @@ pub extern "C" fn kite_cdf(x: f64) -> f64
 
 // ---- an option
 
-fn option_of(
-    put: bool,
-    spot: f64,
-    strike: f64,
-    expiry: f64,
-    rate: f64,
-    volatility: f64,
-) -> OptionParams
-    ensures { λ r. ⌜ r ≡ optionOf put spot strike expiry rate volatility ⌝ }
-{
-    OptionParams {
-        spot,
-        strike,
-        time_to_expiry: expiry,
-        risk_free_rate: rate,
-        volatility,
-        option_type: trays::kind_of(put),
-    }
-}
-
-fn price_number(answer: Priced) -> u64
-    ensures { λ r. ⌜ r ≡ numberOf (outcomeOfPrice answer) ⌝ }
-{
-    match answer {
-        Priced::Price { value: _ } => 0,
-        Priced::Refused { number } => number,
-    }
-}
-
-fn price_value(answer: Priced) -> f64
-    ensures { λ r. ⌜ r ≡ valuesOf (outcomeOfPrice answer) ⌝ }
-{
-    match answer {
-        Priced::Price { value } => value,
-        Priced::Refused { number: _ } => 0.0,
-    }
-}
-
 // Checks 6 to 10.
 #[no_mangle]
 pub extern "C" fn kite_bsm_price(
@@ -125,41 +76,9 @@ pub extern "C" fn kite_bsm_price(
 ) -> u64
     ensures { λ r. ⌜ told r (now (price .exit)) ≡ pricing (optionOf put spot strike expiry rate volatility) ⌝ }
 {
-    let answer = greeks::bsm_price(option_of(put, spot, strike, expiry, rate, volatility));
-    *price = price_value(answer);
-    price_number(answer)
-}
-
-fn greeks_number(answer: Sensitivities) -> u64
-    ensures { λ r. ⌜ r ≡ numberOf (outcomeOfGreeks answer) ⌝ }
-{
-    match answer {
-        Sensitivities::Found { greeks: _ } => 0,
-        Sensitivities::Refused { number } => number,
-    }
-}
-
-fn no_greeks() -> Greeks
-    ensures { λ r. ⌜ r ≡ noGreeks ⌝ }
-{
-    Greeks {
-        delta: 0.0,
-        gamma: 0.0,
-        theta: 0.0,
-        vega: 0.0,
-        rho: 0.0,
-        vanna: 0.0,
-        volga: 0.0,
-    }
-}
-
-fn greeks_values(answer: Sensitivities) -> Greeks
-    ensures { λ r. ⌜ r ≡ valuesOf (outcomeOfGreeks answer) ⌝ }
-{
-    match answer {
-        Sensitivities::Found { greeks } => greeks,
-        Sensitivities::Refused { number: _ } => no_greeks(),
-    }
+    let answer = greeks::bsm_price(rows::option_of(put, spot, strike, expiry, rate, volatility));
+    *price = outcomes::price_value(answer);
+    outcomes::price_number(answer)
 }
 
 // Checks 6 to 10. Writes delta, gamma, theta, vega, rho, vanna, volga.
@@ -175,10 +94,10 @@ pub extern "C" fn kite_bsm_greeks(
 ) -> u64
     ensures { λ r. ⌜ told r (now (greeks .exit)) ≡ over greeksEntries (sensitivities (optionOf put spot strike expiry rate volatility)) ⌝ }
 {
-    let answer = greeks::bsm_greeks(option_of(put, spot, strike, expiry, rate, volatility));
-    let g = greeks_values(answer);
+    let answer = greeks::bsm_greeks(rows::option_of(put, spot, strike, expiry, rate, volatility));
+    let g = outcomes::greeks_values(answer);
     *greeks = [g.delta, g.gamma, g.theta, g.vega, g.rho, g.vanna, g.volga];
-    greeks_number(answer)
+    outcomes::greeks_number(answer)
 }
 
 // Checks 5 to 9, then solves: 12, 13 (11 never holds: crate bounds).
@@ -199,49 +118,22 @@ pub extern "C" fn kite_implied_volatility(
 {
     let answer = greeks::implied_volatility(
         market,
-        option_of(put, spot, strike, expiry, rate, 0.0),
+        rows::option_of(put, spot, strike, expiry, rate, 0.0),
     );
-    let numbers = trays::numbers_of(answer);
-    *values = trays::evidence_of(answer);
+    let numbers = rows::numbers_of(answer);
+    *values = rows::evidence_of(answer);
     *evaluations = numbers[1];
     numbers[0]
 }
 
 // ---- a surface
 
-fn filling_number(answer: Filling) -> u64
-    ensures { λ r. ⌜ r ≡ numberOf (fillOutcome answer) ⌝ }
-{
-    match answer {
-        Filling::Done => 0,
-        Filling::Refused { number } => number,
-    }
-}
-
 // Checks 2 and 15. Not-a-number is a gap.
 #[no_mangle]
 pub extern "C" fn kite_fill_gaps(grid: &mut [f64], strikes: u64, expiries: u64) -> u64
     ensures { λ r. ⌜ FillsGaps strikes expiries (now (grid .entry)) (fillingIn r) (now (grid .exit)) ⌝ }
 {
-    filling_number(gaps::fill_gaps(grid, strikes as usize, expiries as usize))
-}
-
-fn reading_number(answer: Reading) -> u64
-    ensures { λ r. ⌜ r ≡ numberOf (readOutcome answer) ⌝ }
-{
-    match answer {
-        Reading::Value { volatility: _ } => 0,
-        Reading::Refused { number } => number,
-    }
-}
-
-fn reading_value(answer: Reading) -> f64
-    ensures { λ r. ⌜ r ≡ valuesOf (readOutcome answer) ⌝ }
-{
-    match answer {
-        Reading::Value { volatility } => volatility,
-        Reading::Refused { number: _ } => 0.0,
-    }
+    outcomes::filling_number(filler::fill_gaps(grid, strikes as usize, expiries as usize))
 }
 
 // Checks 2, 15, 18, 19 and 20.
@@ -259,7 +151,7 @@ pub extern "C" fn kite_interpolate(
     ensures { λ r. ⌜ told r (now (volatility .exit))
         ≡ reading (now («strike_axis» .entry)) (now («expiry_axis» .entry)) (now (grid .entry)) strikes expiries strike expiry ⌝ }
 {
-    let answer = grid::interpolate(
+    let answer = readings::interpolate(
         strike_axis,
         expiry_axis,
         grid,
@@ -268,8 +160,8 @@ pub extern "C" fn kite_interpolate(
         strike,
         expiry,
     );
-    *volatility = reading_value(answer);
-    reading_number(answer)
+    *volatility = outcomes::reading_value(answer);
+    outcomes::reading_number(answer)
 }
 
 // The reading at the middle strike.
@@ -287,7 +179,7 @@ pub extern "C" fn kite_atm_vol(
         ≡ reading (now («strike_axis» .entry)) (now («expiry_axis» .entry)) (now (grid .entry)) strikes expiries
         (middleStrike (now («strike_axis» .entry)) strikes) expiry ⌝ }
 {
-    let answer = grid::atm_vol(
+    let answer = readings::atm_vol(
         strike_axis,
         expiry_axis,
         grid,
@@ -295,29 +187,8 @@ pub extern "C" fn kite_atm_vol(
         expiries as usize,
         expiry,
     );
-    *volatility = reading_value(answer);
-    reading_number(answer)
-}
-
-fn built_number(built: Built) -> u64
-    ensures { λ r. ⌜ r ≡ numberOf (outcome built) ⌝ }
-{
-    match built {
-        Built::Surface {
-            strikes: _,
-            expiries: _,
-        } => 0,
-        Built::Refused { number } => number,
-    }
-}
-
-fn built_lengths(built: Built) -> [u64; 2]
-    ensures { λ r. ⌜ r ≡ lengthsOf built ⌝ }
-{
-    match built {
-        Built::Surface { strikes, expiries } => [strikes as u64, expiries as u64],
-        Built::Refused { number: _ } => [0, 0],
-    }
+    *volatility = outcomes::reading_value(answer);
+    outcomes::reading_number(answer)
 }
 
 // Checks 1, 2, 15, 16 and 17. Writes the surface, and both axis lengths.
@@ -350,29 +221,11 @@ pub extern "C" fn kite_build(
         grid,
         counts,
     );
-    *lengths = built_lengths(built);
-    built_number(built)
+    *lengths = outcomes::built_lengths(built);
+    outcomes::built_number(built)
 }
 
 // ---- a tray
-
-fn book_of(tray: Tray) -> Book
-    ensures { λ r. ⌜ r ≡ bookOf tray ⌝ }
-{
-    match tray {
-        Tray::Refused { number: _, book } => book,
-        Tray::Quoted { book, built: _ } => book,
-    }
-}
-
-fn built_of(tray: Tray) -> Built
-    ensures { λ r. ⌜ r ≡ builtOf tray ⌝ }
-{
-    match tray {
-        Tray::Refused { number, book: _ } => Built::Refused { number },
-        Tray::Quoted { book: _, built } => built,
-    }
-}
 
 // Opens a fresh book, hears the list, builds. 6 and 9 are the opening's refusals; 1, 15, 16 and 17 the build's. Writes kept, refused, heard and
 // evaluations to `totals`; an offer's number (0 for accepted) and evaluations to `numbers`, its volatility, error, point c and error there to `evidence`.
@@ -404,7 +257,7 @@ pub extern "C" fn kite_quote_tray(
         (columnsOf (now (strikes .exit)) (now (expiries .exit)) (now (volatilities .exit)))
         (buffersOf (now («strike_axis» .exit)) (now («expiry_axis» .exit)) (now (grid .exit)) (now (counts .exit)))) ⌝ }
 {
-    let tray = trays::quote_tray(
+    let tray = batch::quote_tray(
         spot,
         rate,
         kinds,
@@ -419,9 +272,9 @@ pub extern "C" fn kite_quote_tray(
         grid,
         counts,
     );
-    let book = book_of(tray);
-    let built = built_of(tray);
+    let book = outcomes::book_of(tray);
+    let built = outcomes::built_of(tray);
     *totals = [book.kept, book.refused, book.heard, book.evaluations];
-    *lengths = built_lengths(built);
-    built_number(built)
+    *lengths = outcomes::built_lengths(built);
+    outcomes::built_number(built)
 }

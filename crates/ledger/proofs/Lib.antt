@@ -1,4 +1,5 @@
 pub mod Sound
+pub mod Ends
 pub mod Settled
 pub mod Folds
 pub mod Quoted

@@ -1,5 +1,5 @@
 -- Offers, answers and figures as rows of numbers, for calls on lent memory: which entry is which stands here alone, and `Rows` says it of every row.
-use Prim.Native.Nat.{ℕ}
+use Prim.Native.Nat.{ℕ, min}
 use mathlib.Core.Path.{_≡_}
 use mathlib.Core.Bool.{Bool, true, false}
 use mathlib.Core.List.{List, [], _∷_}
@@ -56,6 +56,11 @@ figuresOf x = x .volatility ∷ x .error ∷ x .c ∷ x .«c_error» ∷ []
 
 unfoldable pub evidenceOf : Outcome Solution → List Float
 evidenceOf o = figuresOf (valuesOf o)
+
+-- ---- how many rows four slices have
+-- "The list is as long as the shortest slice", those of the answers included.
+abbrev pub shortest : ℕ → ℕ → ℕ → ℕ → ℕ
+shortest a b c d = min a (min b (min c d))
 
 -- ---- seven greeks
 abbrev pub greeksEntries : Greeks → List Float

@@ -356,7 +356,7 @@ fn judge_read(
     expiry_axis: &[f64; 32],
     grid: &[f64; 2048],
 ) -> bool {
-    let reading = grid::interpolate(
+    let reading = readings::interpolate(
         strike_axis,
         expiry_axis,
         grid,
@@ -375,7 +375,7 @@ fn judge_middle(
     expiry_axis: &[f64; 32],
     grid: &[f64; 2048],
 ) -> bool {
-    let reading = grid::atm_vol(
+    let reading = readings::atm_vol(
         strike_axis,
         expiry_axis,
         grid,
@@ -434,7 +434,7 @@ fn judge_gaps(kind: usize, line: &[u8; 240], cells: &mut [f64; 2048]) -> u64 {
         return 1;
     }
     if kind == 17 {
-        let filling = gaps::fill_gaps(cells, word(line, 0) as usize, word(line, 1) as usize);
+        let filling = filler::fill_gaps(cells, word(line, 0) as usize, word(line, 1) as usize);
         return verdict(judge_filling(line, filling));
     }
     verdict(judge_axis(line, cells))

@@ -1,22 +1,20 @@
 // A volatility surface of quotes: axes, cells and counts, as `VolSurface::from_points` of src/options/surface.rs makes them.
 ghost use mathlib.Core.Path.{_≡_};
-ghost use mathlib.Core.Bool.{true, _&&_, _||_};
+ghost use mathlib.Core.Bool.{true};
 ghost use mathlib.Core.List.{_∷_, _++_};
 ghost use Prim.Native.Nat.{suc, _+_, _-_, _≤_, _<_};
-ghost use lib.Dec.{T, ltb, eqb};
+ghost use lib.Dec.{T, eqb};
 ghost use lib.ListN.{length, take, drop, getD};
 ghost use lib.Ieee.{nan};
 ghost use lib.Ieee.Positive.{positive};
 ghost use Rattle.floats.specs.Operators.{decimal, _≺_, _⊘_, if_then_else_};
-ghost use Rattle.limits.specs.Ranges.{isStrike, isExpiry, isVolatility};
-ghost use Rattle.limits.specs.Checks.{none};
 ghost use Rattle.grid.specs.Search.{firstWhere};
 ghost use Rattle.grid.specs.Layout.{cellAt, values};
-ghost use Rattle.chart.specs.Quotes.{columnsOf, quotes, allInRange};
+ghost use Rattle.chart.specs.Quotes.{columnsOf, quotes};
 ghost use Rattle.chart.specs.Axis.{insert, thinned, axis, place};
 ghost use Rattle.chart.specs.Cells.{source};
 ghost use Rattle.chart.specs.Steps.{axesOf, Alike, Pos, Ascending, reaches, OnAxis, OnAxes, Blank, Filed, held, CellsWritten};
-ghost use Rattle.chart.specs.Steps.{numberBy, axesRefusal, Planned, Accepted};
+ghost use Rattle.chart.specs.Steps.{Planned, Accepted};
 ghost use Rattle.chart.specs.Build.{buffersOf, front, table, surfaceOf, Builds};
 use chart::Built;
 
@@ -344,65 +342,6 @@ fn copy_front(dst: &mut [f64], src: &[f64])
     }
 }
 
-fn is_quote(strike: f64, expiry: f64, volatility: f64) -> bool
-    ensures { λ r. ⌜ r ≡ (isStrike strike && isExpiry expiry && isVolatility volatility) ⌝ }
-{
-    let s = limits::is_strike(strike);
-    let e = limits::is_expiry(expiry);
-    let v = limits::is_volatility(volatility);
-    s & e & v
-}
-
-// 2, of the first n entries of the columns.
-fn are_quotes(strikes: &[f64], expiries: &[f64], volatilities: &[f64], n: usize) -> bool
-    requires { ⌜ (n ≤ length (now strikes)) × (n ≤ length (now expiries)) × (n ≤ length (now volatilities)) ⌝ }
-    ensures { λ r. ⌜ r ≡ allInRange (quotes (columnsOf (now (strikes .entry)) (now (expiries .entry)) (now (volatilities .entry))) n) ⌝ }
-{
-    let mut i = 0;
-    while i < n {
-        if !is_quote(strikes[i], expiries[i], volatilities[i]) {
-            return false;
-        }
-        i += 1;
-    }
-    true
-}
-
-// 1, 2 and 15: what can be said before there are axes. `small` is whether 15 holds. An entry is read only where the columns have it, so 1 and the
-// number kept return before.
-fn build_number(
-    strikes: &[f64],
-    expiries: &[f64],
-    volatilities: &[f64],
-    kept: u64,
-    small: bool,
-) -> u64
-    ensures { λ r. ⌜ r ≡ numberBy (columnsOf (now (strikes .entry)) (now (expiries .entry)) (now (volatilities .entry))) kept small none ⌝ }
-{
-    if (strikes.len() < 1024) | (expiries.len() < 1024) | (volatilities.len() < 1024) {
-        return 1;
-    }
-    if kept > 1024 {
-        return 2;
-    }
-    let ranged = are_quotes(strikes, expiries, volatilities, kept as usize);
-    limits::first(!ranged, 2, limits::first(small, 15, 0))
-}
-
-// 16 and 17, of the axes' lengths.
-fn axes_number(strikes: usize, expiries: usize) -> u64
-    ensures { λ r. ⌜ r ≡ axesRefusal strikes expiries ⌝ }
-{
-    limits::first(strikes > 64, 16, limits::first(expiries > 32, 17, 0))
-}
-
-// 15, of the lengths of the four buffers.
-fn is_small(strikes: usize, expiries: usize, grid: usize, counts: usize) -> bool
-    ensures { λ r. ⌜ r ≡ (ltb strikes 64 || ltb expiries 32 || ltb grid 2048 || ltb counts 2048) ⌝ }
-{
-    (strikes < 64) | (expiries < 32) | (grid < 2048) | (counts < 2048)
-}
-
 // What a build is to write: its number, 0 where it is accepted, and the lengths of its axes.
 struct Plan {
     number: u64,
@@ -424,7 +363,7 @@ fn prepare(
     ensures { λ r. ⌜ Planned (columnsOf (now (strikes .entry)) (now (expiries .entry)) (now (volatilities .entry))) kept small
         (r .number) (r .columns) (r .rows) (now (ks .exit)) (now (ts .exit)) ⌝ }
 {
-    let number = build_number(strikes, expiries, volatilities, kept, small);
+    let number = admission::build_number(strikes, expiries, volatilities, kept, small);
     if number != 0 {
         return Plan {
             number,
@@ -435,7 +374,7 @@ fn prepare(
     let columns = make_axis(ks, strikes, kept as usize);
     let rows = make_axis(ts, expiries, kept as usize);
     Plan {
-        number: axes_number(columns, rows),
+        number: admission::axes_number(columns, rows),
         columns,
         rows,
     }
@@ -480,7 +419,7 @@ pub fn build(
         (buffersOf (now («strike_axis» .entry)) (now («expiry_axis» .entry)) (now (grid .entry)) (now (counts .entry))) r
         (buffersOf (now («strike_axis» .exit)) (now («expiry_axis» .exit)) (now (grid .exit)) (now (counts .exit))) ⌝ }
 {
-    let small = is_small(
+    let small = admission::is_small(
         strike_axis.len(),
         expiry_axis.len(),
         grid.len(),

@@ -193,9 +193,17 @@ fn reads(
         let strike = float(word(input, at + 1));
         let expiry = float(word(input, at + 2));
         if word(input, at) == 0 {
-            say_reading(grid::interpolate(columns, rows, grid, strikes, expiries, strike, expiry));
+            say_reading(readings::interpolate(
+                columns,
+                rows,
+                grid,
+                strikes,
+                expiries,
+                strike,
+                expiry,
+            ));
         } else {
-            say_reading(grid::atm_vol(columns, rows, grid, strikes, expiries, expiry));
+            say_reading(readings::atm_vol(columns, rows, grid, strikes, expiries, expiry));
         }
         i += 1;
     }
@@ -311,7 +319,7 @@ fn fill_part(grid: &mut [f64], input: &[u8]) {
     let strikes = number(input, 1, 4096);
     let expiries = number(input, 2, 4096);
     let f = number(input, 3, grid.len());
-    match gaps::fill_gaps(&mut grid[z..f], strikes, expiries) {
+    match filler::fill_gaps(&mut grid[z..f], strikes, expiries) {
         Filling::Done => {
             say(0);
         }

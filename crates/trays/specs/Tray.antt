@@ -1,5 +1,5 @@
 -- The batch call: a fresh book hears a whole list from lent slices and is built. Its promise is demand 3's claim about the code itself.
-use Prim.Native.Nat.{ℕ, suc, min}
+use Prim.Native.Nat.{ℕ, suc}
 use mathlib.Core.Path.{_≡_}
 use mathlib.Core.Bool.{Bool}
 use mathlib.Core.List.{List, [], _∷_, map}
@@ -13,10 +13,12 @@ use Rattle.brent.specs.declared.Solution.{Solution}
 use Rattle.grid.specs.Layout.{values}
 use Rattle.ledger.specs.Model.{Opening, bsm}
 use Rattle.ledger.specs.Book.{Columns, fresh, zeroBook, openRefusal, isShort}
+use Rattle.chart.specs.declared.Built.{Built}
+use Rattle.chart.specs.declared.Built.the-variants as Built
 use Rattle.chart.specs.Build.{Lengths, outcome}
 use Rattle.ledger.specs.Build.{Buffers, buildOutcome, buffersAfter}
 use Rattle.ledger.specs.Fold.{after, along}
-pub use Rattle.ledger.specs.Rows.{kindOf, termsOf, figuresOf}
+pub use Rattle.ledger.specs.Rows.{kindOf, termsOf, figuresOf, shortest}
 unfoldable pub use Rattle.ledger.specs.Rows.{offerOf, numbersOf, evidenceOf}
 use Rattle.ledger.specs.Claim.{Ledger, hear, reply, tallied, Agrees, BuildClaim}
 use Rattle.ledger.specs.declared.Book.{Book}
@@ -54,10 +56,6 @@ pub record HearsAll (l : Ledger) (os : List Offer) (a : Answers) (b' : Book) (c'
   pub answers : a' ≡ handedOut 0 (along (hear bsm) (reply bsm) l os) a
 
 -- ---- the whole call
--- "The list is as long as the shortest slice", those of the answers included.
-abbrev pub shortest : ℕ → ℕ → ℕ → ℕ → ℕ
-shortest a b c d = min a (min b (min c d))
-
 -- All that is lent to be written: an answer for each offer, the columns, the surface.
 pub record Lent : Type 0 where
   pub answers : Answers
@@ -78,6 +76,16 @@ pub data TrayReply : Type 0 where
 unfoldable pub replyOf : Tray → TrayReply
 replyOf (Tray.Refused number book) = shut number book
 replyOf (Tray.Quoted book built) = heard book (outcome built)
+
+-- What is written of an answer: kept, refused, heard and evaluations of its record, and the lengths of its build.
+unfoldable pub bookOf : Tray → Book
+bookOf (Tray.Refused number book) = book
+bookOf (Tray.Quoted book built) = book
+
+-- A refused opening builds nothing.
+unfoldable pub builtOf : Tray → Built
+builtOf (Tray.Refused number book) = Built.Refused number
+builtOf (Tray.Quoted book built) = built
 
 module _ (opening : Opening) (os : List Offer) (l : Lent) where
   abbrev pub firstLedger : Ledger

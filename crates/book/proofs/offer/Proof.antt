@@ -5,7 +5,7 @@ use Rattle.blackscholes.specs.Implied.{outcomeOfImplied}
 use Rattle.ledger.specs.Model.{bsm}
 use Rattle.ledger.specs.Book.{Columns, columnsOf, isShort, offerOutcome, columnsAfter}
 use Rattle.ledger.specs.Calls.{Replies}
-use Rattle.book.proofs.Offering.{accepted, within}
+use Rattle.verdicts.proofs.Offering.{accepted, within}
 use borrow.Author.Needs.{needs}
 use Rattle.book.proofs.offer.Statement.{statement}
 use Rattle.book.proofs.offer.Tie as tie

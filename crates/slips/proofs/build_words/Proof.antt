@@ -1,5 +1,5 @@
 -- `slips::build_words`: an arm for each case. Assumes nothing.
-use Rattle.slips.specs.Words.{buildWords}
+use Rattle.wording.specs.Words.{buildWords}
 use borrow.Author.Needs.{needs}
 use Rattle.slips.proofs.build_words.Statement.{statement}
 use Rattle.slips.proofs.build_words.Tie as tie

@@ -1,5 +1,5 @@
 -- `slips::cell_words`: the value's bits, then the count. Assumes nothing.
-use Rattle.slips.specs.Words.{cellWords}
+use Rattle.wording.specs.Words.{cellWords}
 use Rattle.slips.proofs.cell_words.Statement.{statement}
 use Rattle.slips.proofs.cell_words.Tie as tie
 

@@ -1,7 +1,7 @@
 -- `slips::ends_words`: a fresh solver has its two ends at the point that it asks for and at b. Assumes nothing.
 use Rattle.brent.specs.Feed.{fresh}
 use Rattle.brent.specs.Outcome.{outcome}
-use Rattle.slips.specs.Words.{endsWords, valueWords}
+use Rattle.wording.specs.Words.{endsWords, valueWords}
 use Rattle.slips.proofs.Starts.{asked, unpriced}
 use borrow.Author.Needs.{needs}
 use Rattle.slips.proofs.ends_words.Statement.{statement}

@@ -2,7 +2,7 @@
 use mathlib.Core.Path.{sym}
 use lib.Ieee.{toBits, round}
 use Rattle.blackscholes.specs.Checks.{outcomeOfGreeks}
-use Rattle.slips.specs.Words.{greeksWords}
+use Rattle.wording.specs.Words.{greeksWords}
 use borrow.Author.Needs.{needs}
 use Rattle.slips.proofs.greeks_words.Statement.{statement}
 use Rattle.slips.proofs.greeks_words.Tie as tie

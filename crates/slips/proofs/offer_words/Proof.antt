@@ -1,6 +1,6 @@
 -- `slips::offer_words`: the rows of an answer, entry by entry. Assumes nothing.
 use Rattle.ledger.specs.Rows.{numbersOf, evidenceOf}
-use Rattle.slips.specs.Words.{offerWords}
+use Rattle.wording.specs.Words.{offerWords}
 use borrow.Author.Needs.{needs}
 use Rattle.slips.proofs.offer_words.Statement.{statement}
 use Rattle.slips.proofs.offer_words.Tie as tie

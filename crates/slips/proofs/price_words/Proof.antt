@@ -2,7 +2,7 @@
 use mathlib.Core.Path.{sym}
 use lib.Ieee.{toBits, round}
 use Rattle.blackscholes.specs.Checks.{outcomeOfPrice}
-use Rattle.slips.specs.Words.{valueWords}
+use Rattle.wording.specs.Words.{valueWords}
 use borrow.Author.Needs.{needs}
 use Rattle.slips.proofs.price_words.Statement.{statement}
 use Rattle.slips.proofs.price_words.Tie as tie

@@ -1,6 +1,6 @@
 -- `slips::read_words`: an arm for each case. Assumes nothing.
 use lib.Ieee.{toBits, round}
-use Rattle.slips.specs.Words.{valueWords}
+use Rattle.wording.specs.Words.{valueWords}
 use borrow.Author.Needs.{needs}
 use Rattle.slips.proofs.read_words.Statement.{statement}
 use Rattle.slips.proofs.read_words.Tie as tie

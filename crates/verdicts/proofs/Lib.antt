@@ -1,0 +1,3 @@
+pub mod Records
+pub mod Offering
+pub mod Solver
