@@ -3,9 +3,9 @@
 
     python3 vectors.py          writes stdin and stdout beside this file
 
-The expected bits come from a literal transcription, below, of document 01's paragraphs on the square root, the tables, exp, ln, erfc and of
-src/normal.rs, in Python's floats (binary64, each operation rounded once); the root is math.sqrt, which IEEE 754 has correctly rounded. Nothing of the
-Rattle code or of its definitions is used. Standard library only.
+The expected bits come from a literal transcription, below, of document 01's paragraphs on the square root, the tables, exp (with document 02's S-8),
+ln, erfc and of src/normal.rs, in Python's floats (binary64, each operation rounded once); the root is math.sqrt, which IEEE 754 has correctly rounded.
+Nothing of the Rattle code or of its definitions is used. Standard library only.
 
 Published values: M. Abramowitz and I. A. Stegun, Handbook of Mathematical Functions, 1964: table 4.2 (natural logarithms, 16 decimals), table 4.4
 (exponential function), table 7.1 (error function, 10 decimals), table 26.1 (normal probability function and density, 15 decimals to x = 3). They are
@@ -54,13 +54,15 @@ def exp(v):
         return NAN
     if v > 709:
         return INF
-    if v < -708:
+    if v < -745:
         return 0.0
     k = math.floor(v * 1.4426950408889634 + 0.5)
     r = (v - k * H) - k * J
     p = E[13]
     for i in range(12, -1, -1):
         p = p * r + E[i]
+    if v < -708:
+        return p * math.ldexp(1.0, k + 200) * math.ldexp(1.0, -200)
     return p * math.ldexp(1.0, k)
 
 
@@ -133,21 +135,23 @@ INPUTS = {
     + some(1, 24, lambda r: real(r.randrange(0x7FF0000000000000))),
     # -0.328 and -10, and below 0.594, 0.7082 and 1.391, tell a table with an entry off or one short from the right one.
     "exp": ENDS + TINY + [-LEAST, 1.0, -1.0, 0.5, -0.5, -0.328, -10.0, 100.0, -100.0, 709.5, -708.5, 1e300, -1e300, LARGEST, -LARGEST]
-    + around(709.0) + around(-708.0) + around(0.34657359027997264) + around(-0.34657359027997264) + around(1.0397207708399179)
-    + some(2, 24, lambda r: r.uniform(-710, 710)) + some(3, 8, lambda r: r.uniform(-1, 1)),
+    + [-709.0, -744.44, -745.5] + around(709.0) + around(-708.0) + around(-745.0)
+    + around(0.34657359027997264) + around(-0.34657359027997264) + around(1.0397207708399179)
+    + some(2, 24, lambda r: r.uniform(-710, 710)) + some(3, 8, lambda r: r.uniform(-1, 1)) + some(9, 24, lambda r: r.uniform(-745.2, -708)),
     "ln": ENDS + TINY + [-LEAST, -1.0, LARGEST, up(LARGEST, -1), 10.0, 0.1, 3.0, 0.594, 0.7082, 1.391]
     + around(0.5) + around(1.0) + around(2.0) + around(4.0) + around(1.4142135623730951) + around(2.8284271247461903) + around(0.7071067811865476)
     + around(real(0x000B504F333F9DE6)) + some(4, 24, lambda r: real(r.randrange(0x7FF0000000000000))) + some(5, 8, lambda r: r.uniform(0, 3)),
     "erfc": ENDS + TINY + [-LEAST, 0.5, -0.5, 1.0, -1.0, 3.0, -3.0, 5.0, -5.0, 26.0, 27.0, 28.0, LARGEST, -LARGEST]
-    + around(2.0) + around(-2.0) + around(26.60826939106451) + some(6, 24, lambda r: r.uniform(-6, 6)),
+    + around(2.0) + around(-2.0) + around(26.60826939106451) + around(27.294688127912362) + some(6, 24, lambda r: r.uniform(-6, 6))
+    + some(10, 8, lambda r: r.uniform(26.6, 27.3)),
     "pdf": ENDS + TINY + [1.0, -1.0, 2.0, 5.0, -5.0, LARGEST, -LARGEST] + around(37.62977544445355) + around(-37.62977544445355)
-    + some(7, 16, lambda r: r.uniform(-8, 8)),
+    + around(38.600518131237564) + around(-38.600518131237564) + some(7, 16, lambda r: r.uniform(-8, 8)) + some(11, 8, lambda r: r.uniform(37.6, 38.6)),
     "cdf": ENDS + TINY + [1.0, -1.0, 1.96, -1.96, 5.0, -5.0, 8.0, -8.0, 38.0, -38.0, LARGEST, -LARGEST] + around(-2.8284271247461903)
-    + around(2.8284271247461903) + some(8, 24, lambda r: r.uniform(-8, 8)),
+    + around(2.8284271247461903) + around(-38.600518131237564) + some(8, 24, lambda r: r.uniform(-8, 8)) + some(12, 8, lambda r: r.uniform(-38.6, -37.6)),
 }
 
-# Two values at once: each of these beside each. By the series, by the fraction, either side of where they meet, the fraction's numerator 0 (from
-# 26.6 times the root of 2), mirrored, and the ends.
+# Two values at once: each of these beside each. By the series, by the fraction, either side of where they meet, the fraction's numerator subnormal
+# (from 26.6 times the root of 2) and 0 (from 27.3 times it), mirrored, and the ends.
 PAIRED = [0.0, -0.0, LEAST, 0.3, -1.7, up(2.8284271247461903, -1), 2.8284271247461903, -2.8284271247461903, 5.0, -37.0, 38.0, -40.0, LARGEST, INF, -INF, NAN]
 
 # ---- published digits: function, input, digits as printed, and what they are digits of

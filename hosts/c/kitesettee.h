@@ -96,7 +96,7 @@ static inline const char *kite_words(uint64_t number)
 /* The square root, correctly rounded. Below 0, not-a-number; -0.0 gives -0.0. */
 double kite_sqrt(double x);
 
-/* e to the x. Above 709 infinity, below -708 0.0. */
+/* e to the x. Above 709 infinity, below -745 0.0; in between above 0.0, and subnormal from about -708.4 down. */
 double kite_exp(double x);
 
 /* The natural logarithm. Of 0 minus infinity, below 0 not-a-number. */
@@ -111,7 +111,11 @@ double kite_cdf(double x);
 
 /* ---- an option: Black and Scholes 1973. Expiry and rate are in years, the volatility is a year's (0.2 for 20 %). */
 
-/* Writes the price. Refusals: 6 spot, 7 strike, 8 expiry, 9 rate, 10 volatility; *price is then 0.0. */
+/*
+ * Writes the price. Refusals: 6 spot, 7 strike, 8 expiry, 9 rate, 10 volatility; *price is then 0.0.
+ * Far out of the money, where -d1 of a call or d2 of a put is above about 37.5, the normal distribution is subnormal, a multiple of 2^-1074: the price may
+ * come out below 0.0, by some (spot + discounted strike) times 5e-324. Above 38.6 it is 0.0.
+ */
 uint64_t kite_bsm_price(bool put, double spot, double strike, double expiry, double rate, double volatility, double *price);
 
 /* Writes delta, gamma, theta, vega, rho, vanna, volga; theta and rho a year. Refusals: 6 to 10, as above; seven times 0.0 then. */

@@ -78,7 +78,7 @@ pub const FUNCTIONS: [&str; 6] = ["sqrt", "exp", "ln", "erfc", "pdf", "cdf"];
 
 /// Where a function takes another branch.
 fn turning(r: &mut Random, function: &str) -> f64 {
-    let k = r.below(2100) as f64 - 1050.0;
+    let k = r.below(2120) as f64 - 1080.0;
     let whole = r.below(1 << 27) as f64;
     let power = f64::from_bits(1u64 << r.below(63));
     match function {
@@ -92,11 +92,12 @@ fn turning(r: &mut Random, function: &str) -> f64 {
             2 => power,
             _ => f64::from_bits(r.below(1 << 20)),
         },
-        // The ends, and where k changes.
-        "exp" => match r.below(4) {
+        // The ends, where the product is made in two, and where k changes.
+        "exp" => match r.below(5) {
             0 => 709.0,
             1 => -708.0,
-            2 => (k + 0.5) * std::f64::consts::LN_2,
+            2 => -745.0,
+            3 => (k + 0.5) * std::f64::consts::LN_2,
             _ => k * std::f64::consts::LN_2,
         },
         // Powers of two and where m is halved, subnormals also.
@@ -105,9 +106,9 @@ fn turning(r: &mut Random, function: &str) -> f64 {
             let v = if r.once_in(8) { power } else { v };
             if r.flip() { v } else { v * 1.4142135623730951 }
         }
-        "erfc" => r.pick(&[0.0, 2.0, -2.0, 26.608269391403093, -26.608269391403093, 1e-8, 26.62, 5.9, -5.9, 1e160]),
-        "pdf" => r.pick(&[0.0, 37.62977544445355, -37.62977544445355, 1e-160, 1.3e154, 1e160, 1.0, 37.65]),
-        _ => r.pick(&[0.0, 2.8284271247461903, -2.8284271247461903, 37.62977544445355, -37.62977544445355, 8.3, -8.3, 1e-160]),
+        "erfc" => r.pick(&[0.0, 2.0, -2.0, 26.608269391403093, -26.608269391403093, 27.294688127912362, 1e-8, 26.62, 5.9, -5.9, 1e160]),
+        "pdf" => r.pick(&[0.0, 37.62977544445355, -37.62977544445355, 38.600518131237564, 1e-160, 1.3e154, 1e160, 1.0, 37.65]),
+        _ => r.pick(&[0.0, 2.8284271247461903, -2.8284271247461903, 37.62977544445355, -37.62977544445355, -38.600518131237564, 8.3, -8.3, 1e-160]),
     }
 }
 
@@ -120,7 +121,7 @@ pub fn argument(r: &mut Random, family: Family, function: &str) -> f64 {
         Wide => match r.below(3) {
             0 => f64::from_bits(r.next()),
             1 if from_zero => r.magnitude(SPOT.0 / SPOT.1, SPOT.1 / SPOT.0),
-            1 if function == "exp" => r.uniform(-710.0, 710.0),
+            1 if function == "exp" => r.uniform(-750.0, 710.0),
             1 => r.uniform(-40.0, 40.0),
             _ => r.magnitude(1e-12, 1e3) * if r.flip() && !from_zero { -1.0 } else { 1.0 },
         },
@@ -198,7 +199,9 @@ fn at_branches(r: &mut Random) -> Asked {
     let mut a = any(r);
     let [spot, _, t, rate, v] = a.values;
     let spread = v * t.sqrt();
-    let target = r.pick(&[0.0, 2.8284271247461903, -2.8284271247461903, 37.62977544445355, -37.62977544445355, 8.0, -8.0]);
+    // From 37.6 to 38.6 exp is subnormal.
+    let far = r.uniform(37.5, 38.7);
+    let target = r.pick(&[0.0, 2.8284271247461903, -2.8284271247461903, 37.62977544445355, -37.62977544445355, 8.0, -8.0, far, -far]);
     let strike = match r.below(4) {
         0 => spot * (rate + 0.5 * v * v).mul_add(t, -target * spread).exp_01(),
         1 => spot * (rate - 0.5 * v * v).mul_add(t, -target * spread).exp_01(),

@@ -1,4 +1,4 @@
-//! Document 01's meanings of the square root, exp, ln and erfc, transcribed a sentence at a time.
+//! Document 01's meanings of the square root, exp (with document 02's S-8), ln and erfc, transcribed a sentence at a time.
 
 const H: f64 = 0.693147180369123816490;
 const J: f64 = 1.90821492927058770002e-10;
@@ -34,7 +34,7 @@ pub fn exp(v: f64) -> f64 {
     if v > 709.0 {
         return f64::INFINITY;
     }
-    if v < -708.0 {
+    if v < -745.0 {
         return 0.0;
     }
     let k = (v * 1.4426950408889634 + 0.5).floor();
@@ -42,6 +42,9 @@ pub fn exp(v: f64) -> f64 {
     let mut p = E[13];
     for i in (0..=12).rev() {
         p = p * r + E[i];
+    }
+    if v < -708.0 {
+        return p * two_to(k as i64 + 200) * two_to(-200);
     }
     p * two_to(k as i64)
 }

@@ -53,3 +53,9 @@ class TrueProgram(Runs):
         self.assertAlmostEqual(call['model_price'], 27.25, 5)
         self.assertTrue(0 < call['delta'] < 1 and -1 < put['delta'] < 0)
         self.assertEqual((call['theta_day'], call['vega_point']), (call['theta_year'] / 365, call['vega'] / 100))
+
+    def test_far_from_the_money(self):
+        """Beyond 37.6 deviations a call's price is subnormal, and still no 0; at 38.6 it is."""
+        prices = [row['model_price'] for row in self.document(['vol,603,0.00145,0.2', 'vol,604,0.00145,0.2', 'vol,607,0.00145,0.2'], '--greeks')['quotes']]
+        self.assertTrue(2.0 ** -1022 > prices[0] > prices[1] > 0.0)
+        self.assertEqual(prices[2], 0.0)

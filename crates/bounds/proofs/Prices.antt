@@ -1,4 +1,4 @@
--- Every price of the model inside document 01's ranges is at most 2^778. Assumes nothing.
+-- Every price of the model inside document 01's ranges is at most 2^416. Assumes nothing.
 use mathlib.Core.Path.{_≡_, refl, sym, subst}
 use Prim.Native.Nat.{ℕ, _*_, _^_, _≤_}
 use native.Mathlib.Nat.{mul-le-mul-right}
@@ -8,7 +8,7 @@ use lib.IntN.{pos}
 use lib.Dec.{T, lit<, lit≤}
 use lib.Pow.{pow-pos}
 use lib.Ieee.{Float, nan, inf, fin, binary64, up, down, neg, lt, le, eq, round}
-use lib.Ieee.Fits.{div-fits}
+use lib.Ieee.Fits.{div-fits, mul-fits}
 use lib.Ieee.Positive.{positive}
 use Rattle.floats.specs.Operators.{decimal, _⊕_, _⊖_, _⊗_, _⊘_, _≼_}
 use Rattle.floats.proofs.Tests.{or-le, or-ge}
@@ -181,32 +181,32 @@ module _ (p : OptionParams) (hs : isSpot (p .spot) ≡ true) (hk : isStrike (p .
   unfolding d2
   d2-bound = bounded-sub 1161 1083 1161 (d1 p) (spread p) (lit< tt) (lit≤ tt) (lit≤ tt) d1-bound spread-bound
 
-  discount-bound : Bounded 1513 (discount p)
+  discount-bound : Bounded 1332 (discount p)
   unfolding discount
   discount-bound =
       let x = neg (p .«risk_free_rate») ⊗ p .«time_to_expiry» in
       let b = bounded-mul 1074 1081 1081 (neg (p .«risk_free_rate»)) (p .«time_to_expiry») (lit< tt) (lit≤ tt)
       (bounded-neg 1074 (p .«risk_free_rate») r) (t .most) in
-      exp-bound 128 1081 x (lit≤ tt) (lit≤ tt) (upto-of-most (128 * 2 ^ 1074) x b) b
+      exp-bound 128 1081 x (mul-fits binary64 (neg (p .«risk_free_rate»)) (p .«time_to_expiry»)) (lit≤ tt) (lit≤ tt) (upto-of-most (128 * 2 ^ 1074) x b) b
 
   -- the two parts of a price, whatever arguments of at most 2^88 the distribution is at
-  spot-part : (x : Float) → Bounded 1162 x → Bounded 1412 (p .spot ⊗ cdf x)
-  spot-part x b = bounded-mul 1104 1382 1412 (p .spot) (cdf x) (lit< tt) (lit≤ tt) (s .most) (cdf-bound x (bounded-more 1162 1200 x (lit≤ tt) b))
+  spot-part : (x : Float) → Bounded 1162 x → Bounded 1231 (p .spot ⊗ cdf x)
+  spot-part x b = bounded-mul 1104 1201 1231 (p .spot) (cdf x) (lit< tt) (lit≤ tt) (s .most) (cdf-bound x (bounded-more 1162 1200 x (lit≤ tt) b))
 
-  strike-part : (x : Float) → Bounded 1162 x → Bounded 1851 (p .strike ⊗ discount p ⊗ cdf x)
+  strike-part : (x : Float) → Bounded 1162 x → Bounded 1489 (p .strike ⊗ discount p ⊗ cdf x)
   strike-part x b =
-      bounded-mul 1543 1382 1851 (p .strike ⊗ discount p) (cdf x) (lit< tt) (lit≤ tt)
-      (bounded-mul 1104 1513 1543 (p .strike) (discount p) (lit< tt) (lit≤ tt) (k .most) discount-bound)
+      bounded-mul 1362 1201 1489 (p .strike ⊗ discount p) (cdf x) (lit< tt) (lit≤ tt)
+      (bounded-mul 1104 1332 1362 (p .strike) (discount p) (lit< tt) (lit≤ tt) (k .most) discount-bound)
       (cdf-bound x (bounded-more 1162 1200 x (lit≤ tt) b))
 
-  pub price-bound : Bounded 1852 (price p)
+  pub price-bound : Bounded 1490 (price p)
   unfolding price
   price-bound =
       let b = bounded-more 1161 1162 (d1 p) (lit≤ tt) d1-bound in
-      of-kind 1852 (p .«option_type») (p .spot ⊗ cdf (d1 p) ⊖ p .strike ⊗ discount p ⊗ cdf (d2 p))
+      of-kind 1490 (p .«option_type») (p .spot ⊗ cdf (d1 p) ⊖ p .strike ⊗ discount p ⊗ cdf (d2 p))
       (p .strike ⊗ discount p ⊗ cdf (neg (d2 p)) ⊖ p .spot ⊗ cdf (neg (d1 p)))
-      (bounded-sub 1412 1851 1851 (p .spot ⊗ cdf (d1 p)) (p .strike ⊗ discount p ⊗ cdf (d2 p)) (lit< tt) (lit≤ tt) (lit≤ tt)
+      (bounded-sub 1231 1489 1489 (p .spot ⊗ cdf (d1 p)) (p .strike ⊗ discount p ⊗ cdf (d2 p)) (lit< tt) (lit≤ tt) (lit≤ tt)
       (spot-part (d1 p) b) (strike-part (d2 p) d2-bound))
-      (bounded-sub 1851 1412 1851 (p .strike ⊗ discount p ⊗ cdf (neg (d2 p))) (p .spot ⊗ cdf (neg (d1 p))) (lit< tt) (lit≤ tt) (lit≤ tt)
+      (bounded-sub 1489 1231 1489 (p .strike ⊗ discount p ⊗ cdf (neg (d2 p))) (p .spot ⊗ cdf (neg (d1 p))) (lit< tt) (lit≤ tt) (lit≤ tt)
       (strike-part (neg (d2 p)) (bounded-neg 1162 (d2 p) d2-bound))
       (spot-part (neg (d1 p)) (bounded-neg 1162 (d1 p) b)))

@@ -58,20 +58,20 @@ unfolding optionRefusal
 not-eleven p h = omega (arith, elsewhere 11 (own p) none refl h)
 
 -- ---- the prices
-pub price-at-most : (p : OptionParams) → refusal p ≡ none → Bounded 1852 (price p)
+pub price-at-most : (p : OptionParams) → refusal p ≡ none → Bounded 1490 (price p)
 unfolding refusal
 price-at-most p h =
     let c = checked p (first (not (isVolatility (p .volatility))) 10 none) h in
     price-bound p (c .spot) (c .strike) (c .expiry) (c .rate)
     (not-false _ (passes ((not (isVolatility (p .volatility)), 10) ∷ []) none refl (c .left) .0 .0))
 
-pub error-finite : (x market : Float) → Bounded 1852 x → T (fits binary64 market) → isPrice market ≡ true → finite (x ⊖ market) ≡ true
+pub error-finite : (x market : Float) → Bounded 1490 x → T (fits binary64 market) → isPrice market ≡ true → finite (x ⊖ market) ≡ true
 unfolding isPrice
 error-finite x market b f h =
-    difference-finite x market (bounded-more 1852 2034 x (lit≤ tt) b) (and-left (finite market) (decimal 0 1 ≺ market) h) f
+    difference-finite x market (bounded-more 1490 2034 x (lit≤ tt) b) (and-left (finite market) (decimal 0 1 ≺ market) h) f
 
 pub finite-price : (p : OptionParams) → refusal p ≡ none → finite (price p) ≡ true
-finite-price p h = most-finite (2 ^ 1852) (price p) (price-at-most p h)
+finite-price p h = most-finite (2 ^ 1490) (price p) (price-at-most p h)
 
 pub finite-answer : (p : OptionParams) (v : Float) → pricing p ≡ done v → finite v ≡ true
 unfolding pricing answered

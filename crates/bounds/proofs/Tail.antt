@@ -8,8 +8,8 @@ use lib.IntN.{pos}
 use lib.Dec.{lit<, lit≤}
 use lib.Pow.{pow-pos}
 use borrow.Author.Tests.{ltb-true, ltb-false, lt-ltb}
-use lib.Ieee.{Float, nan, inf, fin, up, down, neg, lt, round}
-use lib.Ieee.Fits.{down-pos}
+use lib.Ieee.{Float, nan, inf, fin, binary64, up, down, neg, lt, round}
+use lib.Ieee.Fits.{down-pos, mul-fits, neg-fits}
 use Rattle.floats.specs.Operators.{decimal, _⊕_, _⊖_, _⊗_, _⊘_, _≺_, if_then_else_}
 use Rattle.floats.proofs.Tests.{by}
 use Rattle.floats.proofs.Signs.{O, below-zero}
@@ -141,26 +141,27 @@ from-two i v b n h = go v b n (subst (λ (x : Float). v ≺ x ≡ false) (sym tw
         unfold lt in absurd (true≢false (sym (lt-ltb 0 (m * up e * 1 + 1 * 2 * down e) (some (m * up e * 1) (down e) (down-pos e))) ∙ h))
 
 -- ---- erfc
-square-exp : (v : Float) → Bounded 1200 v → Bounded 1257 (exp (neg (v ⊗ v)))
+square-exp : (v : Float) → Bounded 1200 v → Bounded 1076 (exp (neg (v ⊗ v)))
 square-exp v b =
     let s = bounded-mul 1200 1200 1326 v v (lit< tt) (lit≤ tt) b b in
-    exp-bound 0 1326 (neg (v ⊗ v)) zero-le (lit≤ tt) (upto-neg (0 * 2 ^ 1074) (2 ^ 1326) (v ⊗ v) s (negative-square (2 ^ 1200) v b))
+    exp-bound 0 1326 (neg (v ⊗ v)) (neg-fits binary64 (v ⊗ v) (mul-fits binary64 v v)) zero-le (lit≤ tt)
+    (upto-neg (0 * 2 ^ 1074) (2 ^ 1326) (v ⊗ v) s (negative-square (2 ^ 1200) v b))
     (bounded-neg 1326 (v ⊗ v) s)
 
-zero-bound : (v : Float) → Bounded 1200 v → NotBelow v → Bounded 1381 (erfcFromZero v)
+zero-bound : (v : Float) → Bounded 1200 v → NotBelow v → Bounded 1200 (erfcFromZero v)
 unfolding erfcFromZero
 zero-bound v b n =
     let x = exp (neg (v ⊗ v)) in
     let xb = square-exp v b in
-    by (Bounded 1381)
+    by (Bounded 1200)
     (λ (t : Bool). if t then decimal 1 1 ⊖ front ⊗ exp (neg (v ⊗ v)) ⊗ series v 40 .sum else exp (neg (v ⊗ v)) ⊗ tail ⊘ fraction v 60) (v ≺ decimal 2 1)
-    (λ t. bounded-sub 1074 1380 1380 (decimal 1 1) (front ⊗ exp (neg (v ⊗ v)) ⊗ series v 40 .sum) (lit< tt) (lit≤ tt) (lit≤ tt) one-bound
-    (bounded-mul 1258 1196 1380 (front ⊗ exp (neg (v ⊗ v))) (series v 40 .sum) (lit< tt) (lit≤ tt)
-    (bounded-mul 1075 1257 1258 front x (lit< tt) (lit≤ tt) front-bound xb) (series-bound v (under-two v n t) 40 (lit≤ tt) .total)))
+    (λ t. bounded-sub 1074 1199 1199 (decimal 1 1) (front ⊗ exp (neg (v ⊗ v)) ⊗ series v 40 .sum) (lit< tt) (lit≤ tt) (lit≤ tt) one-bound
+    (bounded-mul 1077 1196 1199 (front ⊗ exp (neg (v ⊗ v))) (series v 40 .sum) (lit< tt) (lit≤ tt)
+    (bounded-mul 1075 1076 1077 front x (lit< tt) (lit≤ tt) front-bound xb) (series-bound v (under-two v n t) 40 (lit≤ tt) .total)))
     (λ t. let o = from-two 1200 v b n t in
-    bounded-more 1257 1381 (exp (neg (v ⊗ v)) ⊗ tail ⊘ fraction v 60) (lit≤ tt)
-    (bounded-div 1257 1075 1257 (exp (neg (v ⊗ v)) ⊗ tail) (fraction v 60) (lit< tt) (lit≤ tt)
-    (bounded-mul 1257 1074 1257 x tail (lit< tt) (lit≤ tt) xb tail-bound) (grown v b (o .0) (o .1) 60 .least)))
+    bounded-more 1076 1200 (exp (neg (v ⊗ v)) ⊗ tail ⊘ fraction v 60) (lit≤ tt)
+    (bounded-div 1076 1075 1076 (exp (neg (v ⊗ v)) ⊗ tail) (fraction v 60) (lit< tt) (lit≤ tt)
+    (bounded-mul 1076 1074 1076 x tail (lit< tt) (lit≤ tt) xb tail-bound) (grown v b (o .0) (o .1) 60 .least)))
 
 not-below : (i : ℕ) (v : Float) → Bounded i v → v ≺ O ≡ false → NotBelow v
 not-below i nan b h = b
@@ -174,15 +175,15 @@ turned i (inf s) b h = absurd b
 turned i (fin true m e) b h = tt
 turned i (fin false m e) b h = absurd (below-zero (m * up e * 1) (down e) h)
 
-erfc-bound : (v : Float) → Bounded 1200 v → Bounded 1382 (erfc v)
+erfc-bound : (v : Float) → Bounded 1200 v → Bounded 1201 (erfc v)
 unfolding erfc
 erfc-bound v b =
-    by (Bounded 1382) (λ (t : Bool). if t then decimal 2 1 ⊖ erfcFromZero (neg v) else erfcFromZero v) (v ≺ O)
-    (λ t. bounded-sub 1075 1381 1381 (decimal 2 1) (erfcFromZero (neg v)) (lit< tt) (lit≤ tt) (lit≤ tt) two-bound
+    by (Bounded 1201) (λ (t : Bool). if t then decimal 2 1 ⊖ erfcFromZero (neg v) else erfcFromZero v) (v ≺ O)
+    (λ t. bounded-sub 1075 1200 1200 (decimal 2 1) (erfcFromZero (neg v)) (lit< tt) (lit≤ tt) (lit≤ tt) two-bound
     (zero-bound (neg v) (bounded-neg 1200 v b) (turned 1200 v b t)))
-    (λ t. bounded-more 1381 1382 (erfcFromZero v) (lit≤ tt) (zero-bound v b (not-below 1200 v b t)))
+    (λ t. bounded-more 1200 1201 (erfcFromZero v) (lit≤ tt) (zero-bound v b (not-below 1200 v b t)))
 
-pub cdf-bound : (x : Float) → Bounded 1200 x → Bounded 1382 (cdf x)
+pub cdf-bound : (x : Float) → Bounded 1200 x → Bounded 1201 (cdf x)
 cdf-bound x b =
-    bounded-mul 1074 1382 1382 (decimal 1 2) (erfc (neg x ⊘ root2)) (lit< tt) (lit≤ tt) half-bound
+    bounded-mul 1074 1201 1201 (decimal 1 2) (erfc (neg x ⊘ root2)) (lit< tt) (lit≤ tt) half-bound
     (erfc-bound (neg x ⊘ root2) (bounded-div 1200 1074 1200 (neg x) root2 (lit< tt) (lit≤ tt) (bounded-neg 1200 x b) root2-least))

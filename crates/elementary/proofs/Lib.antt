@@ -3,6 +3,9 @@ pub mod Powers
 pub mod Floors
 pub mod Largest
 pub mod Scaled
+pub mod Remainder
+pub mod Horner
+pub mod Positive
 pub mod Mantissas
 pub mod Reciprocals
 pub mod Laws

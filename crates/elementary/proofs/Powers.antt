@@ -1,16 +1,19 @@
--- 2 ^ k, for k from -1022 to 1023, as the pattern whose field is k + 1023. Assumes nothing.
+-- 2 ^ k, for k from -1022 to 1023, as the pattern whose field is k + 1023, and its size. Assumes nothing.
 use mathlib.Core.Path.{_≡_, refl, sym, ap, _∙_}
 use mathlib.Core.Bool.{false, not}
-use Prim.Native.Nat.{ℕ, suc, _+_, _-_, _*_, _<_}
+use Prim.Native.Nat.{ℕ, suc, _+_, _-_, _*_, _^_, _≤_, _<_}
 use native.Mathlib.Omega.{arith}
-use native.Mathlib.Nat.{add-zero}
+use native.Mathlib.Nat.{add-zero, le-trans, le-of-eq, mul-le-mul-left, mul-le-mul-right}
 use lib.Dec.{T, ltb→lt}
 use lib.IntN.{ℤ, pos, negsuc, _+ℤ_}
+use lib.Pow.{pow-add, pow-pos, pow-mono}
 use lib.Count.{trailingZeros}
 use lib.Ieee.{fin, binary64, ofBits, odd, nanBits, minus, isNan}
 use lib.Ieee.Bits.{nanBits-is}
 use borrow.Author.Tests.{lt-leb, le-leb, le-ltb}
+use Rattle.elementary.specs.Exp.{twoTo}
 use Rattle.elementary.specs.Steps.{inExponent}
+use Rattle.floats.proofs.Bounds.{Bounded}
 use Rattle.floats.proofs.Pattern.{ofBits-normal}
 
 -- k + 1022
@@ -48,3 +51,16 @@ two-is k h =
 pub two-no-nan : (k : ℤ) → T (inExponent k) → T (not (nanBits binary64 (suc (bias k) * 4503599627370496)))
 unfolding isNan
 two-no-nan k h = rw (nanBits-is, two-is k h) tt
+
+-- ---- how large it is
+pub power-bound : (u n : ℕ) → n ≤ u → Bounded (u + 1074) (twoTo (pos n))
+power-bound u n h = go (2 ^ 1074) (2 ^ n) (2 ^ (u + 1074)) (le-trans (mul-le-mul-right (2 ^ 1074) (pow-mono h)) (le-of-eq (sym (pow-add 2 u 1074))))
+  where
+    go : (k p r : ℕ) → p * k ≤ r → 1 * p * k ≤ r * 1
+    go k p r h = omega arith
+
+pub fraction-power : (u n : ℕ) → Bounded (u + 1074) (twoTo (negsuc n))
+fraction-power u n = go (2 ^ 1074) (2 ^ (u + 1074)) (2 ^ suc n) (pow-mono {i = 1074} {j = u + 1074} (omega arith)) (pow-pos (suc n))
+  where
+    go : (k r d : ℕ) → k ≤ r → 0 < d → 1 * 1 * k ≤ r * d
+    go k r d h D = omega (arith, mul-le-mul-left {m = 1} {n = d} r D)

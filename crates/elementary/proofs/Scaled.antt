@@ -1,4 +1,4 @@
--- v * 1.4426950408889634 + 0.5, for v from -708 to 709, lies from -1021.5 to 1023.375. Assumes nothing.
+-- v * 1.4426950408889634 + 0.5 lies from -1021.5 to 1023.375 for v from -708 to 709, and from -1074.875 for v from -745. Assumes nothing.
 use mathlib.Core.Path.{_≡_, refl, sym, ap, _∙_}
 use mathlib.Core.Bool.{Bool, true, false, cond, true≢false, _&&_}
 use Prim.Native.Nat.{ℕ, zero, suc, _+_, _-_, _*_, _/_, _^_, _≤_, _<_}
@@ -6,19 +6,17 @@ use native.Mathlib.Omega.{arith}
 use native.Mathlib.Nat.{mul-assoc, mul-right-comm, mul-le-mul-right, le-of-mul-le-mul-right, le-trans, le-of-eq, div-lt-iff-lt-mul, lt-of-lt-of-le}
 use lib.Dec.{T, ltb, lit<, lit≤, lt→ltb}
 use lib.IntN.{ℤ, pos, negℤ}
-use lib.Ieee.{Float, nan, inf, fin, binary64, up, down, lt, le, ne, add, sum, mul, neg, round, units, odd, isNan}
+use lib.Ieee.{Float, nan, inf, fin, binary64, up, down, lt, le, add, sum, mul, neg, round, units, odd, isNan}
 use Rattle.floats.specs.Operators.{decimal, _⊗_, _≺_}
 use Rattle.floats.specs.Values.{finite}
 use lib.Ieee.Exact.{HasValue, round-exact}
 use lib.Ieee.Fits.{add-fits, down-pos}
 use lib.Ieee.Order.{round-mono, kept, drop}
 use lib.Pow.{shl-lt}
-use lib.Ieee.Compare.{nan-differs}
 use borrow.Author.Tests.{ltb-false}
 use Rattle.floats.proofs.Tests.{or-le}
-use Rattle.floats.proofs.Signs.{nan-is}
 use Rattle.elementary.specs.Exp.{scaled, floor, LargestNotAbove}
-use Rattle.elementary.specs.Steps.{inExponent, Small}
+use Rattle.elementary.specs.Steps.{spans, Small}
 use Rattle.elementary.proofs.Largest.{floor-largest}
 
 -- finite, of the sign s, and at most n / 8 in size
@@ -95,105 +93,139 @@ rounded s a b n B N h =
     eighths n = sym (mul-assoc n (2 ^ 1071) 8)
 
 -- ---- the product
-abbrev c : Float
-c = decimal 14426950408889634 (10 ^ 16)
+abbrev pub log2e : Float
+log2e = decimal 14426950408889634 (10 ^ 16)
 
 abbrev half : Float
 half = decimal 1 2
 
--- v up to 709, and -v up to 708
-times-pos : (m : ℕ) (e : ℤ) → m * up e ≤ 709 * down e → Near false 8183 (mul binary64 (fin false m e) c)
+-- v up to 709, and -v up to w, of which n eighths are the product
+times-pos : (m : ℕ) (e : ℤ) → m * up e ≤ 709 * down e → Near false 8183 (mul binary64 (fin false m e) log2e)
 unfolding mul round
 times-pos m e h = let d = down-pos e in rounded false (m * up e * (3248660424278399 * 1)) (down e * 2251799813685248) 8183 (omega arith) (lit< tt) (omega arith)
 
-times-neg : (m : ℕ) (e : ℤ) → m * up e ≤ 708 * down e → Near true 8172 (mul binary64 (fin true m e) c)
+times-neg : (w n m : ℕ) (e : ℤ) → n < 9000 → w * 3248660424278399 * 8 ≤ n * 2251799813685248 → m * up e ≤ w * down e
+    → Near true n (mul binary64 (fin true m e) log2e)
 unfolding mul round
-times-neg m e h = let d = down-pos e in rounded true (m * up e * (3248660424278399 * 1)) (down e * 2251799813685248) 8172 (omega arith) (lit< tt) (omega arith)
+times-neg w n m e N g h =
+    let d = down-pos e in
+    rounded true (m * up e * (3248660424278399 * 1)) (down e * 2251799813685248) n (omega arith) N (wide (m * up e) (down e) h)
+  where
+    wide : (a d : ℕ) → a ≤ w * d → a * (3248660424278399 * 1) * 8 ≤ n * (d * 2251799813685248)
+    wide a d h = omega (arith, mul-le-mul-right d g)
 
--- ---- the sum
-pub InRange : Float → Type 0
-InRange nan = ⊥
-InRange (inf s) = ⊥
-InRange (fin false m e) = m * up e < 1024 * down e
-InRange (fin true m e) = m * up e ≤ 1022 * down e
+-- ---- the sum: from -low to below 1024
+pub InRange : ℕ → Float → Type 0
+InRange low nan = ⊥
+InRange low (inf s) = ⊥
+InRange low (fin false m e) = m * up e < 1024 * down e
+InRange low (fin true m e) = m * up e ≤ low * down e
 
-weaken : (s : Bool) (n : ℕ) (x : Float) → n ≤ 8187 → (s ≡ true → n ≤ 8172) → Near s n x → InRange x
+weaken : (low : ℕ) (s : Bool) (n : ℕ) (x : Float) → (s ≡ false → n ≤ 8187) → (s ≡ true → n ≤ low * 8) → Near s n x → InRange low x
 unfolding InRange
-weaken s n nan a b h = absurd h
-weaken s n (inf t) a b h = absurd h
-weaken s n (fin false m e) a b h = let d = down-pos e in lt-by (m * up e) (down e) n d a (h .1)
+weaken low s n nan a b h = absurd h
+weaken low s n (inf t) a b h = absurd h
+weaken low s n (fin false m e) a b h = let d = down-pos e in lt-by (m * up e) (down e) n d (a (sym (h .0))) (h .1)
   where
     lt-by : (x y n : ℕ) → 0 < y → n ≤ 8187 → x * 8 ≤ n * y → x < 1024 * y
     lt-by x y n Y N g = let k = mul-le-mul-right y N in omega arith
-weaken s n (fin true m e) a b h = le-by (m * up e) (down e) n (b (sym (h .0))) (h .1)
+weaken low s n (fin true m e) a b h = le-by (m * up e) (down e) n (b (sym (h .0))) (h .1)
   where
-    le-by : (x y n : ℕ) → n ≤ 8172 → x * 8 ≤ n * y → x ≤ 1022 * y
+    le-by : (x y n : ℕ) → n ≤ low * 8 → x * 8 ≤ n * y → x ≤ low * y
     le-by x y n N g = let k = mul-le-mul-right y N in omega arith
 
-plus-pos : (x : Float) → Near false 8183 x → InRange (add binary64 x half)
+plus-pos : (low : ℕ) (x : Float) → Near false 8183 x → InRange low (add binary64 x half)
 unfolding add round sum
-plus-pos nan h = absurd h
-plus-pos (inf s) h = absurd h
-plus-pos (fin true m e) h = absurd (true≢false (h .0))
-plus-pos (fin false m e) h =
+plus-pos low nan h = absurd h
+plus-pos low (inf s) h = absurd h
+plus-pos low (fin true m e) h = absurd (true≢false (h .0))
+plus-pos low (fin false m e) h =
     let d = down-pos e in
-    weaken false 8187 _ (lit≤ tt) (λ (z : false ≡ true). absurd (true≢false (sym z)))
+    weaken low false 8187 _ (λ z. lit≤ tt) (λ (z : false ≡ true). absurd (true≢false (sym z)))
     (rounded false (m * up e * 2 + 1 * 1 * down e) (down e * 2) 8187 (omega arith) (lit< tt) (omega (arith, h .1)))
 
-plus-neg : (x : Float) → Near true 8172 x → InRange (add binary64 x half)
+-- what is not below 0 is at most a half
+plus-neg : (low n : ℕ) (x : Float) → n < 9000 → n ≤ low * 8 → Near true n x → InRange low (add binary64 x half)
 unfolding add round sum
-plus-neg nan h = absurd h
-plus-neg (inf s) h = absurd h
-plus-neg (fin false m e) h = absurd (true≢false (sym (h .0)))
-plus-neg (fin true m e) h = go (ltb (m * up e * 2) (1 * 1 * down e)) (ltb (1 * 1 * down e) (m * up e * 2))
+plus-neg low n nan N l h = absurd h
+plus-neg low n (inf s) N l h = absurd h
+plus-neg low n (fin false m e) N l h = absurd (true≢false (sym (h .0)))
+plus-neg low n (fin true m e) N l h = go (ltb (m * up e * 2) (1 * 1 * down e)) (ltb (1 * 1 * down e) (m * up e * 2)) refl
   where
-    go : (x y : Bool) → InRange
+    at-most-half : (a : ℕ) → a * 8 ≤ 4 * (down e * 2) → InRange low (round binary64 false a (down e * 2))
+    at-most-half a g =
+        let d = down-pos e in
+        weaken low false 4 _ (λ z. lit≤ tt) (λ (z : false ≡ true). absurd (true≢false (sym z))) (rounded false a (down e * 2) 4 (omega arith) (lit< tt) g)
+
+    go : (x y : Bool) → ltb (1 * 1 * down e) (m * up e * 2) ≡ y → InRange low
         (cond x (round binary64 false (1 * 1 * down e - m * up e * 2) (down e * 2)) (round binary64 (true && y) (m * up e * 2 - 1 * 1 * down e) (down e * 2)))
-    go true y =
+    go true y t = at-most-half (1 * 1 * down e - m * up e * 2) (omega arith)
+    go false true t =
         let d = down-pos e in
-        weaken false 8172 _ (lit≤ tt) (λ z. lit≤ tt)
-        (rounded false (1 * 1 * down e - m * up e * 2) (down e * 2) 8172 (omega arith) (lit< tt) (omega (arith, h .1)))
-    go false y =
-        let d = down-pos e in
-        weaken y 8172 _ (lit≤ tt) (λ z. lit≤ tt) (rounded y (m * up e * 2 - 1 * 1 * down e) (down e * 2) 8172 (omega arith) (lit< tt) (omega (arith, h .1)))
+        weaken low true n _ (λ (z : true ≡ false). absurd (true≢false z)) (λ z. l)
+        (rounded true (m * up e * 2 - 1 * 1 * down e) (down e * 2) n (omega arith) N (omega (arith, h .1)))
+    go false false t =
+        let k = ltb-false (1 * 1 * down e) (m * up e * 2) t in
+        at-most-half (m * up e * 2 - 1 * 1 * down e) (omega arith)
 
 -- ---- v
-pub in-range : (v : Float) → ne v v ≡ false → decimal 709 1 ≺ v ≡ false → v ≺ neg (decimal 708 1) ≡ false
-    → InRange (scaled v)
-unfolding lt round neg
-in-range nan n h l = absurd (true≢false (sym nan-differs ∙ n))
-in-range (inf false) n h l = absurd (true≢false h)
-in-range (inf true) n h l = absurd (true≢false l)
-in-range (fin false m e) n h l =
-    let k = ltb-false (709 * 1 * down e) (m * up e * 1) h in plus-pos (mul binary64 (fin false m e) c) (times-pos m e (omega arith))
-in-range (fin true m e) n h l = let k = ltb-false (177 * 4 * down e) (m * up e * 1) l in plus-neg (mul binary64 (fin true m e) c) (times-neg m e (omega arith))
+from-zero : (low m : ℕ) (e : ℤ) → decimal 709 1 ≺ fin false m e ≡ false → InRange low (scaled (fin false m e))
+unfolding lt round
+from-zero low m e h =
+    let k = ltb-false (709 * 1 * down e) (m * up e * 1) h in plus-pos low (mul binary64 (fin false m e) log2e) (times-pos m e (omega arith))
 
-pub range-small : (t : Float) → InRange t → Small t
+-- not below -(i × 2^j), of which n eighths are the product
+ranged : (low n i j : ℕ) → n < 9000 → n ≤ low * 8 → i * 2 ^ j * 3248660424278399 * 8 ≤ n * 2251799813685248 → (v : Float) → isNan v ≡ false
+    → decimal 709 1 ≺ v ≡ false → v ≺ fin true i (pos j) ≡ false → InRange low (scaled v)
+unfolding lt round isNan
+ranged low n i j N L G nan q h l = absurd (true≢false q)
+ranged low n i j N L G (inf false) q h l = absurd (true≢false h)
+ranged low n i j N L G (inf true) q h l = absurd (true≢false l)
+ranged low n i j N L G (fin false m e) q h l = from-zero low m e h
+ranged low n i j N L G (fin true m e) q h l =
+    let k = ltb-false (i * 2 ^ j * down e) (m * up e * 1) l in
+    plus-neg low n (mul binary64 (fin true m e) log2e) N L (times-neg (i * 2 ^ j) n m e N G (omega arith))
+
+pub in-range : (v : Float) → isNan v ≡ false → decimal 709 1 ≺ v ≡ false → v ≺ neg (decimal 745 1) ≡ false → InRange 1075 (scaled v)
+unfolding neg round
+in-range v = ranged 1075 8599 745 0 (lit< tt) (lit≤ tt) (lit≤ tt) v
+
+normal-range : (v : Float) → isNan v ≡ false → decimal 709 1 ≺ v ≡ false → v ≺ neg (decimal 708 1) ≡ false → InRange 1022 (scaled v)
+unfolding neg round
+normal-range v = ranged 1022 8172 177 2 (lit< tt) (lit≤ tt) (lit≤ tt) v
+
+pub range-small : (t : Float) → InRange 1075 t → Small t
 unfolding InRange
 range-small nan h = absurd h
 range-small (inf s) h = absurd h
 range-small (fin false m e) h = let d = down-pos e in omega arith
 range-small (fin true m e) h = let d = down-pos e in omega arith
 
-pub range-exponent : (t : Float) → InRange t → T (inExponent (floor t))
+pub range-exponent : (low : ℕ) (t : Float) → InRange low t → T (spans low (floor t))
 unfolding InRange floor
-range-exponent nan h = absurd h
-range-exponent (inf s) h = absurd h
-range-exponent (fin false m e) h = lt→ltb (m * up e / down e) 1024 (div-lt-iff-lt-mul {k = down e} {x = m * up e} {y = 1024} (down-pos e) .1 h)
-range-exponent (fin true m e) h =
+range-exponent low nan h = absurd h
+range-exponent low (inf s) h = absurd h
+range-exponent low (fin false m e) h = lt→ltb (m * up e / down e) 1024 (div-lt-iff-lt-mul {k = down e} {x = m * up e} {y = 1024} (down-pos e) .1 h)
+range-exponent low (fin true m e) h =
     let d = down-pos e in
-    go ((m * up e + (down e - 1)) / down e) (div-lt-iff-lt-mul {k = down e} {x = m * up e + (down e - 1)} {y = 1023} d .1 (omega arith))
+    go ((m * up e + (down e - 1)) / down e) (div-lt-iff-lt-mul {k = down e} {x = m * up e + (down e - 1)} {y = low + 1} d .1 (omega arith))
   where
-    go : (q : ℕ) → q < 1023 → T (inExponent (negℤ (pos q)))
+    go : (q : ℕ) → q < low + 1 → T (spans low (negℤ (pos q)))
     go zero h = tt
-    go (suc q) h = lt→ltb q 1022 (omega arith)
+    go (suc q) h = lt→ltb q low (omega arith)
 
 -- the k of exp, between the limits
-range-finite : (t : Float) → InRange t → T (finite t)
+range-finite : (low : ℕ) (t : Float) → InRange low t → T (finite t)
 unfolding InRange
-range-finite nan h = absurd h
-range-finite (inf s) h = absurd h
-range-finite (fin s m e) h = tt
+range-finite low nan h = absurd h
+range-finite low (inf s) h = absurd h
+range-finite low (fin s m e) h = tt
 
-pub k-largest : (v : Float) → isNan v ≡ false → decimal 709 1 ≺ v ≡ false → v ≺ neg (decimal 708 1) ≡ false → LargestNotAbove (scaled v) (floor (scaled v))
-k-largest v n h l = floor-largest (scaled v) (add-fits binary64 (v ⊗ c) half) (range-finite (scaled v) (in-range v (nan-is v ∙ n) h l))
+pub k-range : (v : Float) → isNan v ≡ false → decimal 709 1 ≺ v ≡ false → v ≺ neg (decimal 745 1) ≡ false → T (spans 1075 (floor (scaled v)))
+k-range v n h l = range-exponent 1075 (scaled v) (in-range v n h l)
+
+pub k-normal : (v : Float) → isNan v ≡ false → decimal 709 1 ≺ v ≡ false → v ≺ neg (decimal 708 1) ≡ false → T (spans 1022 (floor (scaled v)))
+k-normal v n h l = range-exponent 1022 (scaled v) (normal-range v n h l)
+
+pub k-largest : (v : Float) → isNan v ≡ false → decimal 709 1 ≺ v ≡ false → v ≺ neg (decimal 745 1) ≡ false → LargestNotAbove (scaled v) (floor (scaled v))
+k-largest v n h l = floor-largest (scaled v) (add-fits binary64 (v ⊗ log2e) half) (range-finite 1075 (scaled v) (in-range v n h l))

@@ -1,8 +1,9 @@
--- Document 01, 'exp(v)': "above 709, infinity; below -708, 0.0. Else k is the largest whole number not above v × 1.4426950408889634 + 0.5;
--- r = (v - k×H) - k×J; p starts at E[13] and for i from 12 down to 0 becomes p×r + E[i]; the answer is p × 2^k."
+-- Document 01, 'exp(v)': "above 709, infinity; .. k is the largest whole number not above v × 1.4426950408889634 + 0.5; r = (v - k×H) - k×J; p starts at
+-- E[13] and for i from 12 down to 0 becomes p×r + E[i]; the answer is p × 2^k." Document 02, S-8, for 01's "below -708, 0.0": "exp now answers down to
+-- -745 through subnormals: for v below -708, with k the same, p is multiplied by 2^(k+200) and then by 2^-200; below -745 it gives 0.0."
 use Prim.Native.Nat.{ℕ, _+_, _-_, _*_, _/_, _^_}
 use mathlib.Core.Bool.{true, false}
-use lib.IntN.{ℤ, pos, negℤ, _*ℤ_}
+use lib.IntN.{ℤ, pos, negℤ, _+ℤ_, _*ℤ_}
 use lib.Signed.{_≤ℤ_}
 use lib.Ieee.{Float, nan, inf, fin, binary64, up, down, neg, isNan, ofInt}
 use Rattle.floats.specs.Operators.{decimal, _⊕_, _⊖_, _⊗_, _≺_, if_then_else_}
@@ -16,12 +17,15 @@ H = decimal 693147180369123816490 (10 ^ 21)
 abbrev pub J : Float
 J = decimal 190821492927058770002 (10 ^ 30)
 
--- Above the first, infinity; below the second, 0.0.
+-- Above the first, infinity; from the second up 2^k and the answer are normal; below the third, 0.0.
 abbrev pub overflowLimit : Float
 overflowLimit = decimal 709 1
 
+abbrev pub normalLimit : Float
+normalLimit = neg (decimal 708 1)
+
 abbrev pub underflowLimit : Float
-underflowLimit = neg (decimal 708 1)
+underflowLimit = neg (decimal 745 1)
 
 -- The entry of table E that the sum starts at.
 abbrev pub expDegree : ℕ
@@ -52,18 +56,27 @@ scaled v = v ⊗ decimal 14426950408889634 (10 ^ 16) ⊕ decimal 1 2
 abbrev pub remainder : Float → ℤ → Float
 remainder v k = v ⊖ ofInt binary64 k ⊗ H ⊖ ofInt binary64 k ⊗ J
 
--- 2^k, a float for k from -1022 to 1023.
+-- p, the sum over table E.
+abbrev pub sumAt : Float → ℤ → Float
+sumAt v k = polynomial E expDegree (remainder v k)
+
+-- 2^k, a normal float for k from -1022 to 1023.
 abbrev pub twoTo : ℤ → Float
 twoTo k = fin false 1 k
 
 -- p × 2^k.
 unfoldable pub expAt : Float → ℤ → Float
-expAt v k = polynomial E expDegree (remainder v k) ⊗ twoTo k
+expAt v k = sumAt v k ⊗ twoTo k
+
+-- p × 2^(k+200), and then × 2^-200: two products, and so two roundings.
+unfoldable pub expFarAt : Float → ℤ → Float
+expFarAt v k = sumAt v k ⊗ twoTo (k +ℤ pos 200) ⊗ twoTo (negℤ (pos 200))
 
 unfoldable pub exp : Float → Float
-unfolding floor expAt
+unfolding floor expAt expFarAt
 exp v =
     if isNan v then nan
     else if overflowLimit ≺ v then inf false
     else if v ≺ underflowLimit then decimal 0 1
+    else if v ≺ normalLimit then expFarAt v (floor (scaled v))
     else expAt v (floor (scaled v))

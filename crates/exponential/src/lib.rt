@@ -97,14 +97,18 @@ pub fn exp(v: f64) -> f64
     if v > 709.0 {
         return 1.0 / 0.0;
     }
-    if v < -708.0 {
+    if v < -745.0 {
         return 0.0;
     }
     let k = floor(v * 1.4426950408889634 + 0.5);
     let f = k as f64;
     let r = (v - f * 0.693147180369123816490) - f * 1.90821492927058770002e-10;
     let table = table_e();
-    horner(&table, r) * two_to(k)
+    let p = horner(&table, r);
+    if v < -708.0 {
+        return p * two_to(k + 200) * two_to(-200);
+    }
+    p * two_to(k)
 }
 
 // ln of m * 2^e, with m at most 1.4142135623730951.

@@ -217,19 +217,22 @@ least-round w s n d h D l =
     (subst (λ (x : Float). T (round binary64 false w (2 ^ 1074) ≼ x)) (sym (magnitude-round binary64 s n d))
     (round-mono binary64 w (2 ^ 1074) n d (pow-pos 1074) D l))
 
-pub least-mul : (i j k v u : ℕ) (x y : Float) → k < 2098 → k + 1074 ≤ i + j → AtMost v x → AtMost u y → AtLeast (2 ^ i) x → AtLeast (2 ^ j) y
-    → AtLeast (2 ^ k) (x ⊗ y)
+pub least-product : (i j k v u : ℕ) (x y : Float) → Short k → k * 2 ^ 1074 ≤ i * j → AtMost v x → AtMost u y → AtLeast i x → AtLeast j y → AtLeast k (x ⊗ y)
 unfolding mul
-least-mul i j k v u x y h g =
-    both-finite v u (λ x y. AtLeast (2 ^ i) x → AtLeast (2 ^ j) y → AtLeast (2 ^ k) (x ⊗ y))
-    (λ s m e t n d p q a b. least-round (2 ^ k) (unlike s t) (m * up e * (n * up d)) (down e * down d) (power-short k h) (mul-pos (down-pos e) (down-pos d))
-    (at-least (m * up e) (n * up d) (2 ^ 1074) (2 ^ i) (2 ^ j) (2 ^ k) (down e) (down d) (pow-pos 1074) a b (powers k 1074 i j g)))
+least-product i j k v u x y S g =
+    both-finite v u (λ x y. AtLeast i x → AtLeast j y → AtLeast k (x ⊗ y))
+    (λ s m e t n d p q a b. least-round k (unlike s t) (m * up e * (n * up d)) (down e * down d) S (mul-pos (down-pos e) (down-pos d))
+    (at-least (m * up e) (n * up d) (2 ^ 1074) i j k (down e) (down d) (pow-pos 1074) a b g))
     x y
   where
     at-least : (A B K I J P a b : ℕ) → 0 < K → I * a ≤ A * K → J * b ≤ B * K → P * K ≤ I * J → P * (a * b) ≤ A * B * K
     at-least A B K I J P a b Z h l g =
         le-of-mul-le-mul-right {k = K}
         (let p = mul-le-mul h l in let q = mul-le-mul-right (a * b) g in let z : P * (a * b) * K ≤ A * B * K * K = omega arith in z) Z
+
+pub least-mul : (i j k v u : ℕ) (x y : Float) → k < 2098 → k + 1074 ≤ i + j → AtMost v x → AtMost u y → AtLeast (2 ^ i) x → AtLeast (2 ^ j) y
+    → AtLeast (2 ^ k) (x ⊗ y)
+least-mul i j k v u x y h g = least-product (2 ^ i) (2 ^ j) (2 ^ k) v u x y (power-short k h) (powers k 1074 i j g)
 
 pub least-div : (l j k v : ℕ) (x y : Float) → k < 2098 → k + j ≤ l + 1074 → AtMost v x → AtLeast (2 ^ l) x → Bounded j y → T (positive y)
     → AtLeast (2 ^ k) (x ⊘ y)

@@ -9,6 +9,8 @@ pub mod Minimum
 pub mod Quotients
 pub mod Between
 pub mod Bounds
+pub mod Grid
+pub mod Lowered
 pub mod Above
 pub mod Absorb
 pub mod Digits

@@ -58,7 +58,7 @@ abbrev pub table : List Row
 table =
     row (sqrt (decimal 1 4)) (decimal 1 2)
     ∷ row (exp (decimal 0 1)) (decimal 1 1)
-    ∷ row (exp (neg (decimal 7085 10))) (decimal 0 1)
+    ∷ row (exp (neg (decimal 7455 10))) (decimal 0 1)
     ∷ row (ln (decimal 1 1)) (decimal 0 1)
     ∷ row (cdf (decimal 0 1)) (decimal 1 2)
     ∷ row (swept (nan ∷ decimal 1 4 ∷ nan ∷ decimal 1 2 ∷ nan ∷ [])) (decimal 1 4 ∷ decimal 1 4 ∷ decimal 1 4 ∷ decimal 1 2 ∷ decimal 1 2 ∷ [])

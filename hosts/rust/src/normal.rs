@@ -6,7 +6,8 @@
 //!
 //! assert_eq!(normal::sqrt(0.25), 0.5);
 //! assert_eq!(normal::cdf(0.0), 0.5);
-//! assert_eq!(normal::exp(-708.5), 0.0);
+//! assert_eq!(normal::exp(-745.5), 0.0);
+//! assert!(normal::exp(-745.0) > 0.0);
 //! assert!(normal::ln(-1.0).is_nan());
 //! ```
 use crate::ffi;
@@ -17,7 +18,7 @@ pub fn sqrt(x: f64) -> f64 {
     unsafe { ffi::kite_sqrt(x) }
 }
 
-/// e to the x; above 709 infinity, below -708 0.0.
+/// e to the x; above 709 infinity, below -745 0.0; in between above 0.0, and subnormal from about -708.4 down.
 pub fn exp(x: f64) -> f64 {
     // SAFETY: as for `sqrt`.
     unsafe { ffi::kite_exp(x) }

@@ -111,6 +111,9 @@ impl From<Unsolved> for Refusal {
 
 /// The price by Black and Scholes. Refuses 6 to 10: a spot, strike, expiry, rate or volatility out of range.
 ///
+/// Far out of the money, where -d1 of a call or d2 of a put is above about 37.5, the normal distribution is subnormal, a multiple of
+/// 2^-1074: the price may come out below 0.0, by some (spot + discounted strike) times 5e-324. Above 38.6 it is 0.0.
+///
 /// ```
 /// # use kitesettee::{bsm_price, OptionParams, OptionType, Refusal};
 /// let put = OptionParams {

@@ -42,7 +42,7 @@ fn price(option_type: OptionType, strike: f64, expiry: f64, price: f64) -> Offer
 #[test]
 fn functions() {
     // x, then sqrt, exp, ln, erfc, pdf and cdf of it.
-    let table: [(f64, [u64; 6]); 14] = [
+    let table: [(f64, [u64; 6]); 18] = [
         (-8.0, [NAN, 0x3F35FC21041027AD, NAN, 0x4000000000000000, 0x3CF6C0DF3A094835, 0x3CC669D2C90D55FB]),
         (-1.5, [NAN, 0x3FCC8F87724B5C1D, NAN, 0x3FFF752AAB89BD71, 0x3FC0940856D21E85, 0x3FB11A46D89647EC]),
         (-0.3, [NAN, 0x3FE7B4C869C37C05, NAN, 0x3FF5420E22077A84, 0x3FD868A8709FBBBF, 0x3FD87423A677E90F]),
@@ -55,7 +55,11 @@ fn functions() {
         (3.25, [0x3FFCD82B446159F3, 0x4039CA53B781114B, 0x3FF2DBC55768DEB3, 0x3ED20C1303550F0D, 0x3F609F38E18A2821, 0x3FEFFB45E40A0BF3]),
         (700.0, [0x403A751F9447B724, 0x7F0D945DF4F8EC8E, 0x401A344E6741EBAB, 0, 0, 0x3FF0000000000000]),
         (709.5, [0x403AA2EDCF8BDDBC, 0x7FF0000000000000, 0x401A421C25960B33, 0, 0, 0x3FF0000000000000]),
-        (-708.5, [NAN, 0, NAN, 0x4000000000000000, 0, 0]),
+        (-708.5, [NAN, 0x000E6CF6D08897AC, NAN, 0x4000000000000000, 0, 0]),
+        (-745.0, [NAN, 1, NAN, 0x4000000000000000, 0, 0]),
+        (-745.5, [NAN, 0, NAN, 0x4000000000000000, 0, 0]),
+        (-38.0, [NAN, 0x3C82188AD6AE3303, NAN, 0x4000000000000000, 0x00000000845EB885, 0x00000000037B23B8]),
+        (27.0, [0x4014C8DC2E423980, 0x425EF822F7F6731D, 0x400A5DDFB8038490, 0x0000000000019E0F, 0x1EFC16AA4D10E3E0, 0x3FF0000000000000]),
         (f64::NAN, [NAN; 6]),
     ];
     for (x, [sqrt, exp, ln, erfc, pdf, cdf]) in table {
@@ -95,6 +99,20 @@ fn prices_and_greeks() {
                 0xC03F8D6F85633583,
                 0x3FDC65F71FAFD6FF,
                 0x4009CB01747E08E1,
+            ],
+        ),
+        // Far out of the money, half a day before the end: worth 0.0 before S-8.
+        (
+            option(PUT, 1200.0, 900.0, 0.00145, 0.05, 0.2),
+            0x0000000A3EF8C0B1,
+            [
+                0,
+                0x000000AF81553C32,
+                0x803345991F0A67E8,
+                0x00011E4AF97097E2,
+                0x80000049D1953A3D,
+                0x80049F880441CF46,
+                0x009F2ED538353FB4,
             ],
         ),
         (
@@ -316,7 +334,7 @@ fn the_desks_lines() {
 fn desk_examples() {
     assert_eq!(normal::sqrt(0.25), 0.5);
     assert_eq!(normal::exp(0.0), 1.0);
-    assert_eq!(normal::exp(-708.5), 0.0);
+    assert_eq!(normal::exp(-745.5), 0.0);
     assert_eq!(normal::ln(1.0), 0.0);
     assert_eq!(normal::cdf(0.0), 0.5);
 
