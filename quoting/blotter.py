@@ -11,7 +11,7 @@ from quoting.surface import Cell, Surface
 # The words of each answer: n is a whole number, f a float.
 SHAPES = {
     'open': 'n', 'call': 'nnffff', 'put': 'nnffff', 'vol': 'nnffff', 'build': 'nnn', 'strike': 'f', 'expiry': 'f', 'cell': 'fn',
-    'read': 'nf', 'price': 'nf', 'greeks': 'nfffffff', 'ends': 'nff'}
+    'read': 'nf', 'money': 'nff', 'price': 'nf', 'greeks': 'nfffffff', 'ends': 'nff'}
 WORD = re.compile(rb' ([0-9A-F]{16})')
 
 # Number 0 is accepted; any other is a refusal, and its values are 0.0.

@@ -85,7 +85,7 @@ def draw(path, result, chosen, warnings):
 
 def refused(found):
     """Whether something of a tray was refused."""
-    answers = [row.answer for row in found.rows] + [found.surface] + found.readings
+    answers = [row.answer for row in found.rows] + [found.surface] + found.at_the_money + found.readings
     return any(answer.number for answer in answers)
 
 

@@ -4,6 +4,7 @@ from collections import namedtuple
 
 from quoting import blotter, refusals
 from quoting.faults import InputError
+from quoting.numbers import exact
 
 # How far a price is asked to move the volatility before it says something of it: a tenth of a volatility point.
 STEP = 0.001
@@ -18,7 +19,9 @@ DAYS, POINTS = 365, 100
 # ends: the model's prices at the two end volatilities, where refused by 12. silent: why the price says nothing of volatility, '' where it does.
 Row = namedtuple('Row', 'quote answer ends silent price greeks')
 Reading = namedtuple('Reading', 'strike expiry number volatility')
-Quoted = namedtuple('Quoted', 'name tray spot rate rows surface readings')
+# The surface at the money of an expiry; count: how many quotes the cell there is of, None of a refusal.
+Money = namedtuple('Money', 'expiry strike number volatility count')
+Quoted = namedtuple('Quoted', 'name tray spot rate rows surface at_the_money readings')
 
 
 def accepted(rows):
@@ -39,12 +42,25 @@ def as_put(quote):
 
 
 def first_answers(path, opening, quotes, points):
-    """What each quote is answered, the surface, and the surface read at some points."""
-    lines = [opening] + [blotter.line(q.kind, q.strike, q.expiry, q.value) for q in quotes]
-    lines += [blotter.line('build')] + [blotter.line('read', *point) for point in points]
-    (opened,), *answers = blotter.ask(path, lines)
-    offers, surface, readings = answers[:len(quotes)], answers[len(quotes)], answers[len(quotes) + 1:]
-    return opened, [blotter.Evidence(*answer) for answer in offers], surface, [Reading(*p, *r) for p, r in zip(points, readings)]
+    """What each quote is answered, the surface, and the surface read at the money and at some points."""
+    offers = [blotter.line(q.kind, q.strike, q.expiry, q.value) for q in quotes]
+    # Which expiries the surface has is known once it is built; each is that of a quote, bit for bit, so that all of theirs are asked for.
+    money = list(dict.fromkeys(blotter.line('money', q.expiry) for q in quotes))
+    said = iter(blotter.ask(path, [opening, *offers, blotter.line('build'), *money, *(blotter.line('read', *point) for point in points)]))
+    (opened,), answers, surface = next(said), [blotter.Evidence(*next(said)) for _ in offers], next(said)
+    return opened, answers, surface, at_the_money(surface, dict(zip(money, said))), [Reading(*p, *r) for p, r in zip(points, said)]
+
+
+def at_the_money(surface, said):
+    """The surface at the money, expiry by expiry, from what was said to each line that asked for it."""
+    found = []
+    for expiry, row in zip(surface.expiries, surface.cells):
+        cells = dict(zip(surface.strikes, row))
+        number, strike, volatility = said.get(blotter.line('money', expiry), (0, None, None))
+        if not number and strike not in cells:
+            raise blotter.BlotterError('at the money of expiry %s the program has no strike of its surface' % exact(expiry))
+        found.append(Money(expiry, strike, number, volatility, None if number else cells[strike].count))
+    return found
 
 
 def questions(spot, rate, quote, answer, greeks):
@@ -101,9 +117,9 @@ def quote(path, name, tray, chosen, points, greeks):
     """Quote a tray with the spot and rate that were chosen, and read its surface at some points."""
     spot, rate = chosen['spot'].value, chosen['rate'].value
     opening = blotter.line('open', spot, rate)
-    opened, answers, surface, readings = first_answers(path, opening, tray.quotes, points)
+    opened, answers, *built = first_answers(path, opening, tray.quotes, points)
     if opened:
         about = 'rate' if opened == 9 else 'spot'
         raise InputError('%s: %s; no book was opened' % (chosen[about].source, refusals.of_input(about, chosen[about].value, opened)))
     rows = rows_of(path, opening, spot, rate, tray.quotes, answers, greeks)
-    return Quoted(name, tray, spot, rate, rows, surface, readings)
+    return Quoted(name, tray, spot, rate, rows, *built)

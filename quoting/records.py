@@ -47,6 +47,11 @@ def reading(found):
     return numbers({**found._asdict(), **why})
 
 
+def money(found):
+    """The surface at the money of an expiry; a refusal has no strike."""
+    return {**reading(found), **({'strike': None} if found.number else {})}
+
+
 def surface(built):
     """The surface; where there is none its words say why."""
     why = refusals.words(built.number) if built.number else '' if built.strikes else refusals.EMPTY
@@ -68,7 +73,8 @@ def tray(found, warnings):
     return {
         'tray': found.name, 'spot': number(found.spot), 'rate': number(found.rate),
         'quotes': [row(each, lines.get(each.quote.line, [])) for each in found.rows],
-        'surface': surface(found.surface), 'readings': [reading(each) for each in found.readings], 'warnings': [w._asdict() for w in warnings]}
+        'surface': surface(found.surface), 'at_the_money': [money(each) for each in found.at_the_money],
+        'readings': [reading(each) for each in found.readings], 'warnings': [w._asdict() for w in warnings]}
 
 
 def as_json(results, warned):
@@ -77,7 +83,7 @@ def as_json(results, warned):
 
 
 def flat(found):
-    """The records of a tray, one a row: its quotes, the cells of its surface or why there is none, its readings."""
+    """The records of a tray, one a row: its quotes, the cells of its surface or why there is none, the surface at the money, its readings."""
     for each in found['quotes']:
         yield {**each, 'record': 'quote', 'warnings': '; '.join(each['warnings']), 'says_nothing': 'yes' if each['says_nothing'] else ''}
     built = found['surface']
@@ -86,6 +92,8 @@ def flat(found):
     for expiry, cells, counts in zip(built['expiries'], built['cells'], built['counts']):
         for strike, cell, count in zip(built['strikes'], cells, counts):
             yield {'record': 'cell', 'strike': strike, 'expiry': expiry, 'volatility': cell, 'count': count}
+    for each in found['at_the_money']:
+        yield {**each, 'record': 'money'}
     for each in found['readings']:
         yield {**each, 'record': 'reading'}
 

@@ -34,7 +34,8 @@ def notes(found):
 def of_tray(result, chosen, warnings):
     width = shutil.get_terminal_size((100, 24)).columns
     parts = [[heading(result, chosen), *notes(result.tray)], tables.quotes(result.rows), [tables.counts(result.rows)], tables.warnings(warnings),
-             tables.greeks(result.rows, width), tables.surface(result.surface, width), [tables.reading(found) for found in result.readings]]
+             tables.greeks(result.rows, width), tables.surface(result.surface, width), tables.at_the_money(result),
+             [tables.reading(found) for found in result.readings]]
     return '\n\n'.join('\n'.join(part) for part in parts if part) + '\n'
 
 

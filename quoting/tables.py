@@ -8,6 +8,7 @@ from quoting.numbers import exact, in_percent, rounded
 from quoting.quoted import DAYS, POINTS, figures
 
 SHOWN = 20
+FILLED = 'no quote: filled from its row'
 
 
 def plural(count, noun):
@@ -51,7 +52,12 @@ def outcome(row, widest):
     """A row's volatility, or why it was refused."""
     if row.answer.number:
         return refusals.of_row(row)
-    return '%*s %%%s' % (widest, in_percent(row.answer.volatility, 4), '  ' + doubts.SAYS_NOTHING if row.silent else '')
+    return noted(row.answer.volatility, widest, doubts.SAYS_NOTHING if row.silent else '')
+
+
+def noted(volatility, widest, note):
+    """A volatility in a column of them, and what is to be known of it."""
+    return '%*s %%%s' % (widest, in_percent(volatility, 4), note and '  ' + note)
 
 
 def quotes(rows):
@@ -134,6 +140,21 @@ def surface(surface, width):
     rows = [[label + ' ' * mark for label in across]] + [[f + m.ljust(mark) for f, m in row] for row in body]
     lines = ['Surface: volatility in percent, an expiry a row, a strike a column', '']
     return lines + in_blocks(['expiry'] + down, rows, width) + legend(surface.cells, across + down)
+
+
+def at_the_money(found):
+    """The surface at the money, a line for each expiry, with the surface's labels."""
+    if not found.at_the_money:
+        return []
+    strikes, lines = found.surface.strikes, [('expiry', 'strike', 'volatility')]
+    labels = dict(zip(strikes, axis_labels(strikes)))
+    widest = max(len(in_percent(money.volatility, 4)) for money in found.at_the_money)
+    for expiry, money in zip(axis_labels(found.surface.expiries), found.at_the_money):
+        if money.number:
+            lines.append((expiry, '', refusals.of_fields(money, money.number)))
+        else:
+            lines.append((expiry, labels[money.strike], noted(money.volatility, widest, '' if money.count else FILLED)))
+    return ['At the money: volatility at the strike nearest the spot, ' + exact(found.spot), ''] + aligned(lines)
 
 
 def reading(found):

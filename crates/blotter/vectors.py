@@ -22,7 +22,7 @@ surface = transcriptions.of("surface_test")
 model = transcriptions.of("greeks_test")
 NAN, INF = math.nan, math.inf
 LINE = re.compile(rb"(.{6})((?: [0-9A-F]{16})*)", re.S)
-WORDS = {b"open  ": 2, b"call  ": 3, b"put   ": 3, b"vol   ": 3, b"build ": 0, b"read  ": 2, b"price ": 6, b"greeks": 6, b"ends  ": 4}
+WORDS = {b"open  ": 2, b"call  ": 3, b"put   ": 3, b"vol   ": 3, b"build ": 0, b"read  ": 2, b"money ": 1, b"price ": 6, b"greeks": 6, b"ends  ": 4}
 
 
 def real(word):
@@ -120,6 +120,11 @@ class Blotter:
         number, value = surface.read(*self.buffers[:3], *self.lengths, real(strike), real(expiry))
         return [line(b"read", number, value)]
 
+    def money(self, expiry):
+        kept = len(self.quotes)
+        record = self.spot, self.rate, kept, self.heard - kept, self.heard, 0
+        return [line(b"money", *surface.at_the_money(record, *self.buffers[:3], *self.lengths, real(expiry)))]
+
     # ---- the model
     def price(self, put, *words):
         *option, v = map(real, words)
@@ -144,6 +149,7 @@ class Blotter:
 # ---- requests
 def unopened():
     yield line(b"read", 100.0, 0.5)
+    yield line(b"money", 0.5)
     yield line(b"build")
     yield line(b"call", 100.0, 0.5, 5.0)
     yield line(b"vol", 100.0, 0.5, 0.25)
@@ -151,6 +157,7 @@ def unopened():
     for spot, rate in ((NAN, 0.05), (0.0, NAN), (100.0, 1.5), (100.0, NAN)):
         yield line(b"open", spot, rate)
     yield line(b"vol", 100.0, 0.5, 0.25)
+    yield line(b"money", NAN)
 
 
 def model_price(kind, k, t, v):
@@ -186,7 +193,10 @@ def turned_down():
 
 def built():
     yield line(b"read", 100.0, 0.5)
+    yield line(b"money", 0.5)
     yield line(b"build")
+    for t in (0.2, 0.25, 0.3, 0.5, 0.75, 1.0, 1.25, 1.3, NAN):
+        yield line(b"money", t)
     for k in (79.0, 80.0, 85.0, 100.0, 100.0 + 2.0**-39, 113.0, 125.0, 126.0, NAN):
         for t in (0.2, 0.25, 0.3, 1.0, 1.25, 1.3, NAN):
             yield line(b"read", k, t)
@@ -194,6 +204,7 @@ def built():
     yield line(b"vol", 60.0, 2.0, 0.5)
     yield line(b"read", 60.0, 2.0)
     yield line(b"read", 85.0, 0.3)
+    yield line(b"money", 0.3)
 
 
 def modelled():
@@ -217,6 +228,7 @@ def damaged():
                  quote[:6] + b"\t" + quote[7:], quote[:6] + quote[7:] + b"0", quote[:23] + b"0" + quote[24:], b" " + quote[:-1], b"\xef\xbb\xbf" + quote,
                  b"vols  " + quote[6:], b"volume" + quote[6:], b"?     ", b"strike" + quote[6:23], b"build", b"build  ", line(b"build", 0), line(b"total"),
                  line(b"open", 100.0), line(b"open", 100.0, 0.05, 0.05), line(b"read", 100.0), line(b"read", 100.0, 0.5, 0.5), line(b"call", 100.0, 0.5),
+                 line(b"money"), line(b"money", 0.5, 0.5),
                  line(b"put", 1, 100.0, 0.5, 5.0), line(b"price", 2, 100.0, 100.0, 0.5, 0.05, 0.2), line(b"greeks", 1.0, 100.0, 100.0, 0.5, 0.05, 0.2),
                  line(b"ends", 1 << 63, 100.0, 0.5, 5.0), line(b"price", 0, 100.0, 100.0, 0.5, 0.05), line(b"ends", 0, 100.0, 0.5),
                  line(b"price", 0, 100.0, 100.0, 0.5, 0.05, 0.2, 0.2), b"0" * 108, b"0" * 109, b"0" * 110, b"total " * 1000):
@@ -257,8 +269,10 @@ def reopened():
         yield line(b"build")
         yield line(b"vol", NAN, 0.25, 0.25)
         yield line(b"read", 95.0, 0.3)
+        yield line(b"money", 0.3)
         yield line(b"open", spot, rate)
         yield line(b"read", 95.0, 0.3)
+        yield line(b"money", 0.3)
         yield line(b"ends", 0, 100.0, 0.5, 7.0)
         yield line(b"vol", 100.0, 0.5, 0.25)
         yield line(b"build")
@@ -268,9 +282,21 @@ def reopened():
             yield name[:i] + b"_" + name[i + 1:] + b" 0000000000000000" * WORDS[name]
 
 
+def near():
+    """At the money: strikes bunched low, a tie, the spot on either side of the strikes, one strike."""
+    bunched = (100.0, 101.0, 102.0, 103.0, 104.0, 200.0, 300.0)
+    for spot, ks in ((190.0, bunched), (152.0, bunched), (152.0 + 2.0**-44, bunched), (1.0, bunched), (400.0, bunched), (250.0, bunched), (90.0, (100.0,))):
+        yield line(b"open", spot, 0.05)
+        for i, k in enumerate(ks):
+            yield line(b"vol", k, 0.25 + i % 2 / 4, 0.2 + i / 64)
+        yield line(b"build")
+        for t in (0.25, 0.375, 0.5):
+            yield line(b"money", t)
+
+
 def main():
     blotter = Blotter()
-    parts = (unopened, accepted, turned_down, built, modelled, damaged, reopened, full)
+    parts = (unopened, accepted, turned_down, built, modelled, damaged, reopened, near, full)
     stdin = b"\n".join(text for part in parts for text in part())
     stdout = b"".join(said + b"\n" for text in stdin.split(b"\n") for said in blotter.answer(text))
     assert not stdin.endswith(b"\n")

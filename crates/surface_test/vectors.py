@@ -3,7 +3,7 @@
 
     python3 vectors.py        writes both beside this file
 
-The answers come from this file's own transcription of document 01's surface section, in Python floats (binary64, each operation rounded once),
+The answers come from this file's own transcription of document 01's surface section and of document 02's S-2, in Python floats (binary64, each operation rounded once),
 and from nothing of the product. Every word is 16 hexadecimal digits on a line of its own; a float is its bits, a not-a-number 7FF8000000000000.
 src/main.rt says what the words of a call are. After a build come a digest of each of the four buffers, every entry, in use or not (they hold 7 at
 first), then the number (0 for done), and for a surface its lengths, axes, cells with counts where it has under 9 strikes, and readings.
@@ -156,9 +156,32 @@ def read(ka, ta, grid, strikes, expiries, strike, expiry):
     return 0, (1.0 - e) * ((1.0 - s) * v00 + s * v10) + e * ((1.0 - s) * v01 + s * v11)
 
 
-def at_the_money(ka, ta, grid, strikes, expiries, expiry):
+def middle_strike(ka, ta, grid, strikes, expiries, expiry):
     strike = ka[strikes // 2] if strikes // 2 < len(ka) else NAN
     return read(ka, ta, grid, strikes, expiries, strike, expiry)
+
+
+# ---- document 02, S-2
+def broken(spot, rate, kept, refused, heard, evaluations):
+    """The record's part of 2."""
+    return (kept > 1024 or kept + refused != heard or heard > 60000 or evaluations > 52 * heard
+            or not within(0.000001, 1e9, spot) or not within(-1.0, 1.0, rate))
+
+
+def nearest(ks, spot):
+    """The strike of the least float difference; Python's minimum is the first of equals, and so the lowest."""
+    return min(ks, key=lambda k: abs(k - spot))
+
+
+def at_the_money(record, ka, ta, grid, strikes, expiries, expiry):
+    """The number, the strike and the volatility."""
+    if broken(*record):
+        return 2, 0.0, 0.0
+    ks = ka[:strikes]
+    strike = nearest(ks, record[0]) if good(ks) else NAN
+    number, v = read(ka, ta, grid, strikes, expiries, strike, expiry)
+    assert number != 19
+    return (number, 0.0, 0.0) if number else (0, strike, v)
 
 
 # ---- calls and answers as words
@@ -190,7 +213,7 @@ def answer_reads(ka, ta, grid, strikes, expiries, reads):
         if kind == 0:
             number, v = read(ka, ta, grid, strikes, expiries, strike, expiry)
         else:
-            number, v = at_the_money(ka, ta, grid, strikes, expiries, expiry)
+            number, v = middle_strike(ka, ta, grid, strikes, expiries, expiry)
         answer(number, bits(v))
 
 
@@ -231,17 +254,35 @@ def ask_fill(strikes, expiries, cells, length=2048):
     answer(digest(map(bits, part + grid[length:])))
 
 
-def ask_reads(strikes, expiries, ks, ts, cells, reads, lengths=(64, 32, 2048)):
-    ask(3, strikes, expiries, *lengths, len(ks), len(ts), len(cells), len(reads))
+def ask_surface(kind, strikes, expiries, ks, ts, cells, reads, lengths):
+    """The words of a surface by hand, up to its reads; the part of it that is lent."""
+    ask(kind, strikes, expiries, *lengths, len(ks), len(ts), len(cells), reads)
     ka, ta, grid = [7.0] * 64, [7.0] * 32, [7.0] * 2048
     for a, pokes in ((ka, list(enumerate(ks))), (ta, list(enumerate(ts))), (grid, cells)):
         for at, v in pokes:
             ask(at, bits(v))
             a[at] = v
+    return ka[: lengths[0]], ta[: lengths[1]], grid[: lengths[2]], strikes, expiries
+
+
+def ask_reads(strikes, expiries, ks, ts, cells, reads, lengths=(64, 32, 2048)):
+    lent = ask_surface(3, strikes, expiries, ks, ts, cells, len(reads), lengths)
     for kind, strike, expiry in reads:
         ask(kind, bits(strike), bits(expiry))
     asked_all()
-    answer_reads(ka[: lengths[0]], ta[: lengths[1]], grid[: lengths[2]], strikes, expiries, reads)
+    answer_reads(*lent, reads)
+
+
+def ask_moneys(ks, ts, cells, reads, sizes=None, lengths=(64, 32, 2048)):
+    """Reads at the money, a record and an expiry each."""
+    strikes, expiries = sizes or (len(ks), len(ts))
+    lent = ask_surface(4, strikes, expiries, ks, ts, cells, len(reads), lengths)
+    for record, expiry in reads:
+        ask(*map(bits, record[:2]), *record[2:], bits(expiry))
+    asked_all()
+    for record, expiry in reads:
+        number, strike, v = at_the_money(record, *lent, expiry)
+        answer(number, bits(strike), bits(v))
 
 
 def trays():
@@ -364,10 +405,82 @@ def readings():
     ask_reads(3, 2, ks, ts, [(0, math.inf), (1, -math.inf)], [(0, 90.0, 0.5), (0, 95.0, 0.5), (0, 95.0, 0.75)])
 
 
+def record(spot, rate=0.05, kept=3, refused=1, heard=4, evaluations=30):
+    return spot, rate, kept, refused, heard, evaluations
+
+
+def told_apart(ks, ts):
+    """Cells of which no two are alike."""
+    return [(64 * i + j, 0.1 + 0.07 * i + 0.013 * j) for i in range(len(ts)) for j in range(len(ks))]
+
+
+BUNCHED = [100.0, 101.0, 102.0, 103.0, 104.0, 200.0, 300.0]
+
+
+def moneys():
+    ts = [0.5, 1.0]
+    # strikes bunched low: the middle one is far from the spot; at each strike, beside it, and around the middle of two
+    bunched = BUNCHED
+    spots = [s for k in bunched for s in (down(k), k, up(k))] + [1.0, 150.0, 152.0, down(152.0), up(152.0), 250.0, down(250.0), up(250.0), 400.0, 1e9, 1e-6]
+    ask_moneys(bunched, ts, told_apart(bunched, ts), [(record(s), t) for s in spots for t in (0.5, 0.75, 1.0)])
+    # a tie by exact halves
+    ask_moneys([90.0, 100.0, 110.0], ts, told_apart([90.0] * 3, ts), [(record(s), 0.5) for s in (95.0, down(95.0), up(95.0), 105.0, down(105.0), up(105.0))])
+    # a tie by rounding of the difference: exactly the upper strike is nearer, and the lower one is taken; and with the strikes an ulp further
+    low = 0.125 - 2.0**-56
+    assert abs(low - 1000.0) == abs(1999.875 - 1000.0)
+    for ks in ([low, 1999.875], [down(low), 1999.875], [low, down(1999.875)], [low, up(1999.875)], [-1.0, low, 1999.875, 5000.0]):
+        ask_moneys(ks, ts, told_apart(ks, ts), [(record(1000.0), 0.75), (record(up(1000.0)), 0.75), (record(down(1000.0)), 0.75)])
+    # strikes so large that all differences from the spot are one float
+    large = [2.0**60, 2.0**60 + 512.0, 2.0**61]
+    ask_moneys(large, ts, told_apart(large, ts), [(record(s), 0.5) for s in (1e-6, 100.0, 1e9)])
+    # all below the spot, the upper two at one float difference: neither end is taken
+    below = [1.0, 2.0, 2.00000001]
+    ask_moneys(below, ts, told_apart(below, ts), [(record(1e9), 0.5), (record(down(1e9)), 0.5), (record(1e7), 0.5)])
+    # one strike; the spot outside on either side
+    for s in (1e-6, down(100.0), 100.0, up(100.0), 1e9):
+        ask_moneys([100.0], [0.5], [(0, 0.3)], [(record(s), 0.5), (record(s), 0.6), (record(s), NAN)])
+    # an axis of any sign, with both zeros' neighbours and the ends of the floats
+    wild = [-1.7976931348623157e308, -5.0, -5e-324, 0.0, 5e-324, 7.0, 1.7976931348623157e308]
+    ask_moneys(wild, ts, told_apart(wild, ts), [(record(s), t) for s in (1e-6, 3.5, down(3.5), up(3.5), 1e9) for t in (0.5, 1.0)])
+    # a gap at the strike, beside it, and elsewhere: a cell without weight counts
+    for gap in range(6):
+        cells = [(p, NAN if p == 64 * (gap // 3) + gap % 3 else v) for p, v in told_apart([90.0] * 3, ts)]
+        ask_moneys([90.0, 100.0, 110.0], ts, cells, [(record(s), t) for s in (90.0, 100.0, 110.0) for t in (0.5, 0.75, 1.0)])
+    # random axes and spots, few values so that there are ties
+    rng = random.Random(11)
+    for _ in range(60):
+        ks = sorted({rng.choice([float(rng.randrange(50, 90)), rng.randrange(200, 400) / 4, rng.uniform(50, 100)]) for _ in range(rng.randrange(1, 20))})
+        reads = [(record(rng.choice([rng.randrange(400, 1200) / 8, rng.uniform(40, 160), rng.choice(ks)])), rng.choice([0.5, 0.6, 1.0])) for _ in range(12)]
+        ask_moneys(ks, ts, told_apart(ks, ts), reads)
+
+
+def refused_moneys():
+    ts, bunched = [0.5, 1.0], BUNCHED
+    # a record out of bounds, each way by itself, before all else; the last records that are in bounds
+    fine, whole = told_apart(bunched, ts), (64, 32, 2048)
+    bad = [record(0.0), record(NAN), record(math.inf), record(-100.0), record(down(1e-6)), record(up(1e9)), record(100.0, NAN), record(100.0, 1.5),
+           record(100.0, down(-1.0)), record(100.0, kept=1025, refused=0, heard=1025), record(100.0, kept=2), record(100.0, refused=2), record(100.0, heard=5),
+           record(100.0, kept=0, refused=60001, heard=60001, evaluations=0), record(100.0, evaluations=209), record(100.0, evaluations=MASK),
+           record(100.0, kept=MASK, refused=5, heard=4), record(100.0, kept=5, refused=MASK, heard=4), (0.0, 0.0, 0, 0, 0, 0)]
+    good_ones = [record(1e-6), record(1e9), record(100.0, -1.0), record(100.0, 1.0), record(100.0, -0.0),
+                 record(100.0, kept=0, refused=0, heard=0, evaluations=0),
+                 record(100.0, kept=1024, refused=58976, heard=60000, evaluations=3120000), record(100.0, evaluations=208)]
+    for sizes, lengths in (((7, 2), whole), ((65, 2), whole), ((7, 33), whole), ((7, 2), (63, 32, 2048)), ((7, 2), (64, 31, 2048)), ((7, 2), (64, 32, 2047)),
+                           ((0, 2), whole), ((7, 0), whole), ((0, 0), whole), ((65, 33), (0, 0, 0)), ((7, 2), (0, 0, 0)), ((64, 2), (3, 32, 2048))):
+        ask_moneys(bunched, ts, fine, [(r, t) for r in bad + good_ones[:4] for t in (0.5, NAN)], sizes, lengths)
+    ask_moneys(bunched, ts, fine, [(r, t) for r in good_ones for t in (0.5, 0.75, down(0.5), up(1.0), NAN, math.inf)])
+    # axes that are no axes
+    for ks in ([90.0, 90.0, 120.0], [100.0, 90.0, 120.0], [90.0, NAN, 120.0], [NAN, 100.0, 120.0], [90.0, 100.0, math.inf], [-math.inf, 100.0, 120.0]):
+        ask_moneys(ks, ts, fine, [(record(100.0), 0.5), (record(NAN), 0.5)])
+        ask_moneys(ts, ks, fine, [(record(100.0), 100.0), (record(0.75), 100.0)])
+
+
 def main():
     trays()
     fills()
     readings()
+    moneys()
+    refused_moneys()
     asked.append(0)
     here = os.path.dirname(os.path.abspath(__file__))
     for name, words in (("stdin", asked), ("stdout", answered)):

@@ -78,6 +78,38 @@ static double strikes[KITE_QUOTES], expiries[KITE_QUOTES], volatilities[KITE_QUO
 static double strike_axis[KITE_STRIKES], expiry_axis[KITE_EXPIRIES], grid[KITE_CELLS];
 static uint64_t counts[KITE_CELLS];
 
+/* The surface in those buffers at the strike nearest a spot: the strike, and the volatility there. */
+static void at_the_money(double spot, double rate, const uint64_t totals[4], const uint64_t lengths[2])
+{
+    double money[2];
+    uint64_t n = kite_at_the_money(spot, rate, totals, SLICE(strike_axis), SLICE(expiry_axis), SLICE(grid), lengths[0], lengths[1], 0.75, money);
+    if (n == KITE_DONE) {
+        printf(" strike");
+        number(money[0]);
+        printf(",");
+    }
+    answer(n, money[1]);
+}
+
+/* Readings of it: at two places, at the middle strike, at the money, and had the spot risen. */
+static void readings(double spot, double rate, const uint64_t totals[4], const uint64_t lengths[2])
+{
+    double v;
+    printf("at 102.5, 0.75:");
+    uint64_t n = kite_interpolate(SLICE(strike_axis), SLICE(expiry_axis), SLICE(grid), lengths[0], lengths[1], 102.5, 0.75, &v);
+    answer(n, v);
+    printf("at 110, 0.75:");
+    n = kite_interpolate(SLICE(strike_axis), SLICE(expiry_axis), SLICE(grid), lengths[0], lengths[1], 110.0, 0.75, &v);
+    answer(n, v);
+    printf("at the middle strike, 0.75:");
+    n = kite_middle_strike(SLICE(strike_axis), SLICE(expiry_axis), SLICE(grid), lengths[0], lengths[1], 0.75, &v);
+    answer(n, v);
+    printf("at the money, 0.75:");
+    at_the_money(spot, rate, totals, lengths);
+    printf("at the money of a spot of 104, 0.75:");
+    at_the_money(104.0, rate, totals, lengths);
+}
+
 static void tray(void)
 {
     const double spot = 100.0, rate = 0.03, hair = 9.094947017729282379150390625e-13; /* 2^-40 */
@@ -135,16 +167,7 @@ static void tray(void)
         }
         printf("\n");
     }
-    double v;
-    printf("at 102.5, 0.75:");
-    n = kite_interpolate(SLICE(strike_axis), SLICE(expiry_axis), SLICE(grid), lengths[0], lengths[1], 102.5, 0.75, &v);
-    answer(n, v);
-    printf("at 110, 0.75:");
-    n = kite_interpolate(SLICE(strike_axis), SLICE(expiry_axis), SLICE(grid), lengths[0], lengths[1], 110.0, 0.75, &v);
-    answer(n, v);
-    printf("at the money, 0.75:");
-    n = kite_atm_vol(SLICE(strike_axis), SLICE(expiry_axis), SLICE(grid), lengths[0], lengths[1], 0.75, &v);
-    answer(n, v);
+    readings(spot, rate, totals, lengths);
 }
 
 static void missing_rate(void)

@@ -41,7 +41,7 @@ extern "C" {
 enum kite_refusal {
     KITE_DONE = 0,
     KITE_SHORT_COLUMN = 1,       /* a lent quote column has fewer than 1,024 entries */
-    KITE_OUT_OF_BOUNDS = 2,      /* more than 1,024 quotes kept, or a kept entry out of range; more than 64 strikes or 32 expiries */
+    KITE_OUT_OF_BOUNDS = 2,      /* a book's record out of bounds; over 1,024 quotes kept, or one out of range; more than 64 strikes or 32 expiries */
     KITE_BOOK_CLOSED = 3,        /* the book has heard 60,000 offers */
     KITE_BOOK_FULL = 4,          /* the book has kept 1,024 quotes */
     KITE_PRICE = 5,              /* a market price is not finite or not above 0 */
@@ -68,7 +68,7 @@ static inline const char *kite_words(uint64_t number)
     switch (number) {
     case 0: return "done";
     case 1: return "a quote column has fewer than 1,024 entries";
-    case 2: return "too many quotes, strikes or expiries, or a kept quote out of range";
+    case 2: return "too many quotes, strikes or expiries, a kept quote out of range, or a book's record out of bounds";
     case 3: return "the book has heard 60,000 offers";
     case 4: return "the book has kept 1,024 quotes";
     case 5: return "the market price is not finite or not above 0";
@@ -194,9 +194,20 @@ uint64_t kite_fill_gaps(double *grid, size_t grid_len, uint64_t strikes, uint64_
 uint64_t kite_interpolate(const double *strike_axis, size_t strike_axis_len, const double *expiry_axis, size_t expiry_axis_len,
                           const double *grid, size_t grid_len, uint64_t strikes, uint64_t expiries, double strike, double expiry, double *volatility);
 
-/* The same at the middle strike, that at index strikes / 2. Refusals: 2, 15, 18 and 20, as above. */
-uint64_t kite_atm_vol(const double *strike_axis, size_t strike_axis_len, const double *expiry_axis, size_t expiry_axis_len, const double *grid, size_t grid_len,
-                      uint64_t strikes, uint64_t expiries, double expiry, double *volatility);
+/* The same at the middle strike, that at index strikes / 2, wherever the spot is. Refusals: 2, 15, 18 and 20, as above. */
+uint64_t kite_middle_strike(const double *strike_axis, size_t strike_axis_len, const double *expiry_axis, size_t expiry_axis_len,
+                            const double *grid, size_t grid_len, uint64_t strikes, uint64_t expiries, double expiry, double *volatility);
+
+/*
+ * The same at the strike nearest a book's spot: the one whose difference from it, as a double, has the least magnitude, the lower one on a tie.
+ * The book is its record: the spot and the rate that it was opened on, and the totals that kite_quote_tray wrote. Writes to values the strike that was
+ * read at, one of the axis also where the spot lies outside, and the volatility there.
+ * Refusals: first 2 of the record (kept above 1,024, kept + refused not equal to heard, heard above 60,000, evaluations above 52 times heard,
+ * spot or rate out of the ranges of 6 and 9), then 2, 15, 18 and 20, as above; values is then twice 0.0.
+ */
+uint64_t kite_at_the_money(double spot, double rate, const uint64_t totals[4],
+                           const double *strike_axis, size_t strike_axis_len, const double *expiry_axis, size_t expiry_axis_len,
+                           const double *grid, size_t grid_len, uint64_t strikes, uint64_t expiries, double expiry, double values[2]);
 
 #ifdef __cplusplus
 }

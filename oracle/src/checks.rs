@@ -69,6 +69,26 @@ pub fn priced(strike: f64, expiry: f64, market: f64) -> Check {
     first(&[(5, is_price(market), market), (7, is_strike(strike), strike), (8, is_expiry(expiry), expiry)])
 }
 
+/// What is wrong with a book's record that 2 turns down; sums and products in full.
+pub fn record_cause(spot: f64, rate: f64, totals: [u64; 4]) -> Option<String> {
+    let [kept, refused, heard, evaluations] = totals.map(u128::from);
+    let counts = [
+        (kept > 1024, "kept above 1,024"),
+        (kept + refused != heard, "kept + refused not heard"),
+        (heard > 60_000, "heard above 60,000"),
+        (evaluations > 52 * heard, "evaluations above 52 times heard"),
+    ];
+    if let Some((_, what)) = counts.iter().find(|c| c.0) {
+        Some(format!("record: {what}"))
+    } else if !is_spot(spot) {
+        Some(format!("record: spot {}", cause(6, spot)))
+    } else if !is_rate(rate) {
+        Some(format!("record: rate {}", cause(9, rate)))
+    } else {
+        None
+    }
+}
+
 /// 18: an axis has values, finite and strictly ascending.
 pub fn is_axis(axis: &[f64]) -> bool {
     !axis.is_empty() && axis.iter().all(|x| x.is_finite()) && axis.windows(2).all(|w| w[0] < w[1])

@@ -3,6 +3,7 @@
 #[path = "../../hosts/rust/src/ffi.rs"]
 mod ffi;
 use ffi::*;
+use oracle::questions::Record;
 
 /// `function` is one of `questions::FUNCTIONS`.
 pub fn function(function: &str, x: f64) -> f64 {
@@ -105,7 +106,7 @@ pub fn fill_gaps(grid: &mut [f64], strikes: u64, expiries: u64) -> u64 {
     unsafe { kite_fill_gaps(grid.as_mut_ptr(), grid.len(), strikes, expiries) }
 }
 
-/// A reading, or with no strike the one at the money.
+/// A reading, or with no strike the one at the middle strike.
 pub fn read(b: &Buffers, strike: Option<f64>, expiry: f64) -> (u64, f64) {
     let mut out = UNWRITTEN;
     let (s, e, g) = (&b.strike_axis, &b.expiry_axis, &b.grid);
@@ -115,8 +116,33 @@ pub fn read(b: &Buffers, strike: Option<f64>, expiry: f64) -> (u64, f64) {
             Some(strike) => {
                 kite_interpolate(s.as_ptr(), s.len(), e.as_ptr(), e.len(), g.as_ptr(), g.len(), strikes, expiries, strike, expiry, &mut out)
             }
-            None => kite_atm_vol(s.as_ptr(), s.len(), e.as_ptr(), e.len(), g.as_ptr(), g.len(), strikes, expiries, expiry, &mut out),
+            None => kite_middle_strike(s.as_ptr(), s.len(), e.as_ptr(), e.len(), g.as_ptr(), g.len(), strikes, expiries, expiry, &mut out),
         }
+    };
+    (number, out)
+}
+
+/// The strike and the volatility at the money.
+pub fn at_the_money(of: &Record, b: &Buffers, expiry: f64) -> (u64, [f64; 2]) {
+    let mut out = [UNWRITTEN; 2];
+    let (s, e, g) = (&b.strike_axis, &b.expiry_axis, &b.grid);
+    let [strikes, expiries] = b.lengths;
+    let number = unsafe {
+        kite_at_the_money(
+            of.spot,
+            of.rate,
+            &of.totals,
+            s.as_ptr(),
+            s.len(),
+            e.as_ptr(),
+            e.len(),
+            g.as_ptr(),
+            g.len(),
+            strikes,
+            expiries,
+            expiry,
+            &mut out,
+        )
     };
     (number, out)
 }

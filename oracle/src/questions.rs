@@ -550,6 +550,98 @@ pub fn made(r: &mut Random, family: Family) -> Made {
     Made { strikes, expiries, grid }
 }
 
+// ---- readings at the money
+
+/// A book's record, as a host passes it.
+#[derive(Clone, Copy, Debug)]
+pub struct Record {
+    pub spot: f64,
+    pub rate: f64,
+    /// Kept, refused, heard, evaluations.
+    pub totals: [u64; 4],
+}
+
+/// Strikes in pairs as far below a spot as above it: exactly, or but for a last place or two, which the float difference may round away.
+fn paired(r: &mut Random, count: usize) -> Vec<f64> {
+    let spot = (r.uniform(1.0, 1000.0) * 8.0).round() / 8.0;
+    let far = f64::from(1 << r.below(12));
+    let mut axis = Vec::new();
+    while axis.len() < count {
+        let low = (r.uniform(0.0, spot) / far * 8.0).floor() / 8.0;
+        axis.push(neighbour(low, r.below(5) as i64 - 2));
+        axis.push(spot + (spot - low));
+    }
+    axis.sort_by(f64::total_cmp);
+    axis.dedup();
+    axis.truncate(count);
+    axis
+}
+
+/// A surface made by hand on such strikes.
+pub fn made_in_pairs(r: &mut Random, family: Family) -> Made {
+    let mut m = made(r, family);
+    m.strikes = paired(r, m.strikes.len());
+    for row in &mut m.grid {
+        row.truncate(m.strikes.len());
+    }
+    m
+}
+
+/// A spot about an axis: as far from two values, or nearly; beside a value; anywhere in its range. Edge: also just outside its range.
+fn spot_about(r: &mut Random, family: Family, axis: &[f64]) -> f64 {
+    let spot = match r.below(6) {
+        0 if family == Edge => return edge(r, SPOT),
+        0 => edge(r, SPOT),
+        1 => r.magnitude(SPOT.0, SPOT.1),
+        2 | 3 if !axis.is_empty() => {
+            let half = (r.pick(axis) + r.pick(axis)) / 2.0;
+            if r.flip() { half } else { neighbour(half, r.below(5) as i64 - 2) }
+        }
+        _ => place(r, axis),
+    };
+    if spot.is_nan() { 100.0 } else { spot.clamp(SPOT.0, SPOT.1) }
+}
+
+/// A record that a book may leave, for a surface with that strike axis. Damaged: half of them none that a book leaves; Edge: also inputs just outside.
+pub fn record(r: &mut Random, family: Family, strikes: &[f64]) -> Record {
+    let spot = spot_about(r, family, strikes);
+    let rate = match family {
+        Edge if r.once_in(4) => edge(r, RATE),
+        Wide => wide_rate(r),
+        _ => r.uniform(-0.02, 0.1),
+    };
+    let kept = if r.once_in(4) { r.pick(&[0, 1, 1023, 1024]) } else { r.below(1025) };
+    let refused = if r.once_in(4) { r.pick(&[0, 1, 60_000 - kept]) } else { r.below(60_001 - kept) };
+    let heard = kept + refused;
+    let evaluations = if r.once_in(4) { 52 * heard } else { r.below(52 * heard + 1) };
+    let record = Record { spot, rate, totals: [kept, refused, heard, evaluations] };
+    if family == Damaged && r.flip() { broken(r, record) } else { record }
+}
+
+fn broken(r: &mut Random, mut record: Record) -> Record {
+    let [kept, refused, heard, evaluations] = record.totals;
+    match r.below(7) {
+        0 => {
+            let kept = r.pick(&[1025, 1026, 1 << 32, u64::MAX]);
+            record.totals = [kept, refused, kept.wrapping_add(refused), evaluations];
+        }
+        1 => record.totals[2] = r.pick(&[heard + 1, heard.wrapping_sub(1), 0, u64::MAX]),
+        2 => {
+            let heard = r.pick(&[60_001, 60_002, 1 << 32, u64::MAX]);
+            record.totals = [kept, heard - kept, heard, evaluations];
+        }
+        3 => record.totals[3] = r.pick(&[52 * heard + 1, 52 * heard + 2, 1 << 40, u64::MAX]),
+        // Kept + refused is heard only modulo 2^64.
+        4 => {
+            let heard = r.below(kept + 1);
+            record.totals = [kept + 1, heard.wrapping_sub(kept + 1), heard, 0];
+        }
+        5 => record.spot = if r.flip() { r.pick(&DAMAGES) } else { edge(r, SPOT) },
+        _ => record.rate = if r.flip() { r.pick(&DAMAGES) } else { edge(r, RATE) },
+    }
+    record
+}
+
 /// A grid with gaps: rows by columns.
 pub fn gaps(r: &mut Random, family: Family) -> Vec<Vec<f64>> {
     let most = if r.once_in(60) { (32, 64) } else { (6, 8) };

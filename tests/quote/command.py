@@ -43,6 +43,12 @@ class Command(Runs):
              27.50    one quote
              27.50x2  the mean of two quotes
             (27.50)   no quote: the nearest quoted cell to its left in the row, else to its right
+
+            At the money: volatility at the strike nearest the spot, 100
+
+            expiry  strike  volatility
+               0.5     100  25.0000 %
+                 1     100  30.0000 %  no quote: filled from its row
             '''))
 
     def test_bits_are_exact(self):
@@ -53,7 +59,8 @@ class Command(Runs):
         bits = lambda *xs: ''.join(' ' + struct.pack('>d', x).hex().upper() for x in xs)
         self.assertEqual(log.read_text().splitlines(), [
             'open  ' + bits(100.0, -0.1), 'vol   ' + bits(100 + 2.0 ** -40, 0.1, 0.07),
-            'put   ' + bits(100 + 2.0 ** -39) + ' 7FF8000000000000' + bits(1e-320), 'build '])
+            'put   ' + bits(100 + 2.0 ** -39) + ' 7FF8000000000000' + bits(1e-320), 'build ',
+            'money ' + bits(0.1), 'money  7FF8000000000000'])
 
     def test_hair_apart_share_a_column(self):
         rows = ['vol,100,0.5,0.25', 'vol,%s,0.5,0.5' % HAIR, 'vol,100.000000000001818989403545856475830078125,0.5,0.3']

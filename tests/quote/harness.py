@@ -2,6 +2,7 @@
 
 import os
 import shutil
+import struct
 import subprocess
 import sys
 import tempfile
@@ -26,6 +27,10 @@ GOOD = 'spot,100,rate,0.05\nkind,strike,expiry,value\ncall,100,0.5,25\n'
 
 def header(*rows):
     return ('kind,strike,expiry,value\n' + ''.join(row + '\n' for row in rows)).encode()
+
+
+def bits(x):
+    return struct.pack('>d', float(x))
 
 
 def row(kind='call', strike=100.0, expiry=0.5, value=25.0, line=2, number=0, volatility=0.25, ends=None, silent=''):

@@ -3,20 +3,15 @@
 import csv
 import json
 import math
-import struct
 import textwrap
 import xml.etree.ElementTree as ElementTree
 
 from quoting import records
 
-from quote.harness import GOOD, HAIR, Runs, header
+from quote.harness import GOOD, HAIR, Runs, bits, header
 
 ROWS = ('call,100,0.5,25', 'call,%s,0.5,29' % HAIR, 'vol,110,0.1,0.30000000000000004', 'put,90,1e999,7', 'call,90,0.5,', 'put,90,0.5,4000')
 TRAY = b'spot,100.1,rate,-0.01\n' + header(*ROWS)
-
-
-def bits(x):
-    return struct.pack('>d', float(x))
 
 
 class Files(Runs):

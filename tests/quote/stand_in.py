@@ -6,7 +6,7 @@ import struct
 import sys
 
 LOWEST, HIGHEST = 0.000001, 10.0
-WORDS = {'open': 2, 'call': 3, 'put': 3, 'vol': 3, 'build': 0, 'total': 0, 'read': 2, 'price': 6, 'greeks': 6, 'ends': 4}
+WORDS = {'open': 2, 'call': 3, 'put': 3, 'vol': 3, 'build': 0, 'total': 0, 'read': 2, 'money': 1, 'price': 6, 'greeks': 6, 'ends': 4}
 
 
 def mode():
@@ -40,11 +40,12 @@ def place(axis, value):
 
 class Book:
     def __init__(self):
-        self.kept, self.strikes, self.expiries, self.cells = [], [], [], []
+        self.spot, self.kept, self.strikes, self.expiries, self.cells = None, [], [], [], []
 
     def open(self, name, spot, rate):
-        self.kept = []
-        return said(name, 6 if not spot > 0 else 9 if not -1 <= rate <= 1 else 0)
+        number = 6 if not spot > 0 else 9 if not -1 <= rate <= 1 else 0
+        self.spot, self.kept = None if number else spot, []
+        return said(name, number)
 
     def number(self, kind, strike, expiry, value):
         checks = (
@@ -84,6 +85,15 @@ class Book:
         number = 19 if not self.strikes[0] <= strike <= self.strikes[-1] else 20 if not self.expiries[0] <= expiry <= self.expiries[-1] else 0
         return said(name, number, 0.0 if number else self.cells[0][0][0])
 
+    def money(self, name, expiry):
+        checks = (2, self.spot is not None), (18, self.strikes), (20, self.strikes and self.expiries[0] <= expiry <= self.expiries[-1])
+        number = next((number for number, holds in checks if not holds), 0)
+        if number:
+            return said(name, number, 0.0, 0.0)
+        j = min(range(len(self.strikes)), key=lambda j: abs(self.strikes[j] - self.spot))
+        i = max(i for i, x in enumerate(self.expiries) if x <= expiry)
+        return said(name, 0, self.strikes[j], self.cells[i][j][0])
+
     def price(self, name, *option):
         volatility = option[-1]
         return said(name, 0, price_at(volatility)) if LOWEST <= volatility <= HIGHEST else said(name, 10, 0.0)
@@ -104,13 +114,21 @@ def answer(book, line):
     return getattr(book, name)(name, *floats(words))
 
 
+# What a program that fails would say to money.
+MONEY = {
+    'no money': '?     \n', 'money left out': '', 'money a word short': said('money', 0, 100.0), 'money off the axis': said('money', 0, 101.0, 0.25),
+    'money refused': said('money', 20, 0.0, 0.0)}
+
+
 def altered(text):
     """What a program that fails would say."""
-    lines = text.splitlines(True)
+    lines = [MONEY.get(mode(), line) if line.startswith('money') else line for line in text.splitlines(True)]
+    text = ''.join(lines)
     return {
         'too few': ''.join(lines[:-1]), 'too many': text + lines[-1], 'broken off': text[:-1], 'a word more': text.replace('\n', ' ' + '0' * 16 + '\n'),
         'a letter more': text.replace('\n', 'A\n'), 'lower case': text.replace('A', 'a').replace('B', 'b'),
-        'not understood': '?     \n' * len(lines), 'garbage': 'hello\n'}.get(mode(), text)
+        'not understood': '?     \n' * len(lines), 'garbage': 'hello\n', 'another expiry': text.replace(said('expiry', 0.5), said('expiry', 1.5)),
+    }.get(mode(), text)
 
 
 def answers(asked):

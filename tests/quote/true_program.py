@@ -13,6 +13,10 @@ FAR = (
     ('call,900,0.25,0.00005', False), ('call,900,0.25,0.000001', True), ('call,900,0.25,0.0000005', True), ('call,452.25,0.25,5.7', False),
     ('call,200,0.08,253.125', False), ('call,10,0.08,442.29', True), ('call,10,0.08,442.375', False), ('put,10,5,0.125', False),
     ('call,450,0.25,27.25', False))
+# Strikes, a spot, and the strike at the money: bunched low, a tie, a spot a hair off it, one strike, a spot outside, two with one float difference.
+NEAREST = (
+    ((300, 301, 302, 303, 440, 500), 452.25, 440), ((440, 464.5), 452.25, 440), ((440, 464.5), 452.25 + 2.0 ** -44, 464.5), ((7,), 452.25, 7),
+    ((500, 510, 520), 452.25, 500), ((300, 310, 320), 452.25, 320), ((1, 1.00000001), 1e9, 1), ((1, 2, 2.00000001), 1e9, 2))
 
 
 @unittest.skipUnless(PROGRAM.is_file(), 'the program is not built')
@@ -42,6 +46,17 @@ class TrueProgram(Runs):
                 counts[bisect_right(found['expiries'], 0.25 + t * 1e-13) - 1][bisect_right(found['strikes'], strike) - 1] += 1
         self.assertGreater(len(counts), 1)
         self.assertEqual(counts, found['counts'])
+
+    def test_at_the_money(self):
+        """A reading there has the bits of its cell, quoted or filled."""
+        for strikes, spot, wanted in NEAREST:
+            options = [(k, t) for t in (0.25, 0.5, 2) for k in strikes if len(strikes) == 1 or (k, t) != (wanted, 0.5)]
+            found = self.document(['vol,%r,%r,%r' % (k, t, 0.2 + k % 7 / 30 + t / 70) for k, t in options], '--spot', repr(spot))
+            built = found['surface']
+            place = built['strikes'].index(wanted)
+            self.assertEqual(
+                [(m['number'], m['expiry'], m['strike'], m['volatility'], m['count']) for m in found['at_the_money']],
+                [(0, t, wanted, cells[place], counts[place]) for t, cells, counts in zip(built['expiries'], built['cells'], built['counts'])])
 
     def test_the_side_of_a_price(self):
         low, high = self.document(['call,300,0.25,155', 'put,400,0.25,6375'])['quotes']

@@ -10,7 +10,7 @@ from quote.harness import HAIR, Runs, header, row
 
 
 def warned(*rows, strikes=(100.0,), expiries=(0.5,)):
-    return [w.words for w in doubts.of(Quoted('', None, 100.0, 0.0, list(rows), Surface(0, list(strikes), list(expiries), []), []))]
+    return [w.words for w in doubts.of(Quoted('', None, 100.0, 0.0, list(rows), Surface(0, list(strikes), list(expiries), []), [], []))]
 
 
 class Doubts(unittest.TestCase):

@@ -317,6 +317,28 @@ fn read(
     t
 }
 
+// At the strike nearest the book's spot.
+fn read_money(
+    s: State,
+    expiry: f64,
+    strike_axis: &[f64; 64],
+    expiry_axis: &[f64; 32],
+    grid: &[f64; 2048],
+) -> State {
+    let words = slips::money_words(money::at_the_money(
+        s.book,
+        strike_axis,
+        expiry_axis,
+        grid,
+        s.strikes,
+        s.expiries,
+        expiry,
+    ));
+    let mut t = s;
+    t.ok = say(s.ok, b"money ", &words);
+    t
+}
+
 // A build or a reading; any other request is passed over.
 fn survey(
     s: State,
@@ -348,6 +370,7 @@ fn survey(
             t
         }
         Request::Read { strike, expiry } => read(s, strike, expiry, strike_axis, expiry_axis, grid),
+        Request::Money { expiry } => read_money(s, expiry, strike_axis, expiry_axis, grid),
         _ => s,
     }
 }

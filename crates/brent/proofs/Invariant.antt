@@ -17,7 +17,7 @@ use Rattle.floats.specs.Operators.{_⊖_, _⊗_, _≺_, _≼_, if_then_else_}
 use Rattle.floats.specs.Values.{magnitude, finite}
 use Rattle.floats.proofs.Tests.{by, clash, and-left, and-right, or-left, or-right-false}
 use Rattle.floats.proofs.Signs.{O, is-zero, positive-not-zero, positive-of-lt}
-use Rattle.floats.proofs.Order.{lt-turns}
+use Rattle.floats.proofs.Less.{lt-turns}
 use Rattle.floats.proofs.Rounding.{mul-commutes}
 use Rattle.floats.proofs.Products.{Opposed, opposed-turns, opposed-like, opposed-of-product, alike-of-product}
 use Rattle.limits.proofs.Ranges.{volatility-finite}
@@ -102,7 +102,7 @@ module _ (market : Float) (h : List Tried) where
         kb = k .kc;
         kc = k .kb;
         sides = ordered (p .fc) (p .fb) (k .kc .finite-error) (k .kb .finite-error) (turned (p .fb) (p .fc) (k .sides))
-            (lt-turns (p .fc) (p .fb) t);
+            (lt-turns (magnitude (p .fc)) (magnitude (p .fb)) t);
       })
       (λ t. record { kb = k .kb; kc = k .kc; sides = ordered (p .fb) (p .fc) (k .kb .finite-error) (k .kc .finite-error) (k .sides) t })
 

@@ -2,6 +2,7 @@ pub mod Tests
 pub mod Rounding
 pub mod Signs
 pub mod Order
+pub mod Less
 pub mod Products
 pub mod Whole
 pub mod Short

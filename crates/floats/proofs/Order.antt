@@ -3,10 +3,10 @@ use mathlib.Core.Path.{_≡_, refl, sym, ap, _∙_, subst}
 use Prim.Native.Nat.{ℕ, _+_, _-_, _*_, _≤_, _<_}
 use native.Mathlib.Nat.{le-refl, le-of-lt, mul-pos, mul-comm, mul-sub, mul-le-mul-right}
 use native.Mathlib.Omega.{arith}
-use mathlib.Core.Bool.{Bool, true, false, cond, true≢false}
+use mathlib.Core.Bool.{Bool, true, false, cond}
 use lib.IntN.{ℤ}
 use lib.Dec.{T, ltb, ltb→lt}
-use borrow.Author.Tests.{ltb-true, ltb-false, le-ltb}
+use borrow.Author.Tests.{ltb-true, ltb-false}
 use lib.Ieee.{Float, nan, inf, fin, Format, binary64, up, down, round, sum, add, sub, lt, le}
 use lib.Ieee.Order.{round-mono}
 use lib.Ieee.Positive.{num, den, positive, den-pos, le→cross, cross→le, through}
@@ -47,17 +47,6 @@ under-of-not-lt (fin false m e) (fin false n d) p q h = ltb-false (m * up e * do
 
 pub le-of-not-lt : (x y : Float) → T (positive x) → T (positive y) → x ≺ y ≡ false → T (y ≼ x)
 le-of-not-lt x y p q h = cross→le y x q p (under-of-not-lt x y p q h)
-
--- of two magnitudes, not each is below the other
-pub lt-turns : (x y : Float) → magnitude x ≺ magnitude y ≡ true → magnitude y ≺ magnitude x ≡ false
-unfolding lt magnitude
-lt-turns nan y h = absurd (true≢false (sym h))
-lt-turns (inf s) nan h = refl
-lt-turns (inf s) (inf t) h = refl
-lt-turns (inf s) (fin t n d) h = absurd (true≢false (sym h))
-lt-turns (fin s m e) nan h = refl
-lt-turns (fin s m e) (inf t) h = refl
-lt-turns (fin s m e) (fin t n d) h = le-ltb (n * up d * down e) (m * up e * down d) (le-of-lt (ltb-true (m * up e * down d) (n * up d * down e) h))
 
 -- no infinity is at most a finite value
 pub not-infinite : (x : Float) → T (positive x) → T (inf false ≼ x) → ⊥

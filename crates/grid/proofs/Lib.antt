@@ -5,7 +5,10 @@ pub mod Rows
 pub mod Parts
 pub mod Places
 pub mod Ascent
+pub mod Axes
+pub mod Nearest
 pub mod ReadChecks
 pub mod ReadCases
+pub mod AtAxis
 pub mod Bracketing
 pub mod Middles

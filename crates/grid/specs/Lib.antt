@@ -1,3 +1,4 @@
 pub mod Layout
 pub mod Search
 pub mod Readings
+pub mod Nearest

@@ -1,4 +1,5 @@
--- Document 01: "Reading checks 2, 15, 18, 19, 20 and follows `interpolate`. The at-the-money reading takes the strike at index n/2, rounded down."
+-- Document 01: "Reading checks 2, 15, 18, 19, 20 and follows `interpolate`. The at-the-money reading takes the strike at index n/2, rounded down." Since S-2
+-- of document 02 that reading is the middle strike's; at the money is ledger/specs/Money.
 -- `bracket` and the corners v00, v10, v01, v11 are the Rust's.
 use Prim.Native.Nat.{ℕ, suc, _-_, _/_, _≤_, _<_}
 use mathlib.Core.Path.{_≡_}
@@ -88,7 +89,7 @@ reading strikeAxis expiryAxis grid strikes expiries strike expiry =
     answered (readRefusal strikeAxis expiryAxis grid strikes expiries strike expiry (hasGap v)) (decimal 0 1)
     (bilinear v (s .fraction) (e .fraction))
 
--- The strike that stands for the money: the one at index n/2.
+-- The middle strike: the one at index n/2.
 abbrev pub middleStrike : List Float → ℕ → Float
 middleStrike strikeAxis strikes = getD strikeAxis (strikes / 2) nan
 

@@ -1,5 +1,5 @@
 // A lent grid of up to 32 rows (expiries) and 64 columns (strikes), and its readings, on paper: where a cell stands, the searches and the readings of
-// src/options/surface.rs (specs/). Crate `readings` has the calls.
+// src/options/surface.rs, the strike nearest a spot (specs/). Crate `readings` has the calls.
 ghost use mathlib.Core.Path.{_≡_};
 ghost use lib.Ieee.{nan};
 

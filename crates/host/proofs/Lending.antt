@@ -8,10 +8,10 @@ use lib.Dec.{eqb}
 use lib.Ieee.{Float}
 use borrow.Author.Tests.{ne-eqb, eqb-true}
 use Rattle.floats.specs.Operators.{if_then_else_}
-use Rattle.floats.proofs.Tests.{split}
 use Rattle.limits.specs.Ranges.{isSpot, isRate}
 use Rattle.limits.specs.Checks.{first, none}
 use Rattle.limits.specs.Outcome.{Outcome, numberOf, answered}
+use Rattle.limits.proofs.Answers.{number-answered}
 use Rattle.gaps.specs.Gaps.{fillOutcome, fillRefusal, FillsGaps}
 use Rattle.gaps.specs.declared.Filling.{Filling}
 use Rattle.gaps.specs.declared.Filling.the-variants as Filling
@@ -67,10 +67,6 @@ opening-number o h = go (isSpot (o .spot)) (isRate (o .rate)) h
     go true true h = sym h
     go true false h = refl
     go false r h = refl
-
-number-answered : {X : Type 0} (n : ℕ) (zeros values : X) → numberOf (answered n zeros values) ≡ n
-unfolding answered
-number-answered n zeros values = split (eqb n none) (λ t. rw t (sym (eqb-true n none t))) (λ f. rw f refl)
 
 -- a row more, whose number is no opening's
 next : (holds : Bool) (number rest : ℕ) → isOpening number ≡ false → isOpening rest ≡ false → isOpening (first holds number rest) ≡ false

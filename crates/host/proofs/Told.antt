@@ -22,6 +22,8 @@ use Rattle.blackscholes.specs.Implied.{impliedRefusal, implied}
 use Rattle.blackscholes.specs.declared.OptionParams.{OptionParams}
 use Rattle.grid.specs.Readings.{reading}
 use Rattle.ledger.specs.Book.{endOf}
+use Rattle.ledger.specs.Money.{atTheMoney}
+use Rattle.ledger.specs.declared.Book.{Book}
 use Rattle.ledger.specs.Calls.{Ended}
 use Rattle.ledger.proofs.Ends.{run-ended}
 use Rattle.host.specs.Answers.{told, over}
@@ -66,6 +68,11 @@ pub numbered-reading : (strikeAxis expiryAxis grid : List Float) (strikes expiri
     → Numbered (reading strikeAxis expiryAxis grid strikes expiries strike expiry)
 unfolding reading
 numbered-reading strikeAxis expiryAxis grid strikes expiries strike expiry = numbered-answer _ _ _
+
+pub numbered-money : (b : Book) (strikeAxis expiryAxis grid : List Float) (strikes expiries : ℕ) (expiry : Float)
+    → Numbered (atTheMoney b strikeAxis expiryAxis grid strikes expiries expiry)
+unfolding atTheMoney
+numbered-money b strikeAxis expiryAxis grid strikes expiries expiry = numbered-answer _ _ _
 
 -- What a solver ends with.
 numbered-end : (o : Outcome Solution) → Ended o → Numbered o

@@ -8,7 +8,7 @@ use Rattle.limits.specs.Checks.{none}
 use Rattle.limits.specs.Outcome.{Outcome, done, refused}
 use Rattle.brent.specs.declared.Solution.{Solution}
 use Rattle.ledger.specs.Rows.{figuresOf}
-pub use Rattle.ledger.specs.Rows.{greeksEntries}
+pub use Rattle.ledger.specs.Rows.{greeksEntries, moneyEntries}
 unfoldable pub use Rattle.ledger.specs.Rows.{optionOf}
 
 -- What a returned number and the values written mean. Of each outcome there is one number and one writing.

@@ -10,12 +10,13 @@ ghost use Rattle.gauss.specs.Normal.{pdf, cdf};
 ghost use Rattle.blackscholes.specs.Checks.{pricing, sensitivities};
 ghost use Rattle.blackscholes.specs.Implied.{implied};
 ghost use Rattle.grid.specs.Readings.{reading, middleStrike};
+ghost use Rattle.ledger.specs.Money.{atTheMoney};
 ghost use Rattle.gaps.specs.Gaps.{FillsGaps};
 ghost use Rattle.ledger.specs.Book.{columnsOf, endOf};
 ghost use Rattle.ledger.specs.Build.{buffersOf};
 ghost use Rattle.trays.specs.Tray.{answers, lent, heardOffers};
-ghost use Rattle.host.specs.Answers.{told, over, optionOf, greeksEntries, written, solvedWritten};
-ghost use Rattle.host.specs.Calls.{fillingIn, BuildsFor, QuotesFor};
+ghost use Rattle.host.specs.Answers.{told, over, optionOf, greeksEntries, moneyEntries, written, solvedWritten};
+ghost use Rattle.host.specs.Calls.{fillingIn, bookIn, BuildsFor, QuotesFor};
 
 // ---- the functions of src/normal.rs and what it calls
 
@@ -166,7 +167,7 @@ pub extern "C" fn kite_interpolate(
 
 // The reading at the middle strike.
 #[no_mangle]
-pub extern "C" fn kite_atm_vol(
+pub extern "C" fn kite_middle_strike(
     strike_axis: &[f64],
     expiry_axis: &[f64],
     grid: &[f64],
@@ -179,7 +180,7 @@ pub extern "C" fn kite_atm_vol(
         ≡ reading (now («strike_axis» .entry)) (now («expiry_axis» .entry)) (now (grid .entry)) strikes expiries
         (middleStrike (now («strike_axis» .entry)) strikes) expiry ⌝ }
 {
-    let answer = readings::atm_vol(
+    let answer = readings::middle_strike(
         strike_axis,
         expiry_axis,
         grid,
@@ -189,6 +190,37 @@ pub extern "C" fn kite_atm_vol(
     );
     *volatility = outcomes::reading_value(answer);
     outcomes::reading_number(answer)
+}
+
+// 2 of the record, then 2, 15, 18 and 20: at the strike nearest the record's spot. Writes the strike and the volatility.
+#[no_mangle]
+pub extern "C" fn kite_at_the_money(
+    spot: f64,
+    rate: f64,
+    totals: &[u64; 4],
+    strike_axis: &[f64],
+    expiry_axis: &[f64],
+    grid: &[f64],
+    strikes: u64,
+    expiries: u64,
+    expiry: f64,
+    values: &mut [f64; 2],
+) -> u64
+    ensures { λ r. ⌜ told r (now (values .exit))
+        ≡ over moneyEntries (atTheMoney (bookIn (record { spot = spot; rate = rate }) (now (totals .entry)))
+        (now («strike_axis» .entry)) (now («expiry_axis» .entry)) (now (grid .entry)) strikes expiries expiry) ⌝ }
+{
+    let answer = money::at_the_money(
+        rows::book_of(spot, rate, *totals),
+        strike_axis,
+        expiry_axis,
+        grid,
+        strikes as usize,
+        expiries as usize,
+        expiry,
+    );
+    *values = outcomes::money_values(answer);
+    outcomes::money_number(answer)
 }
 
 // Checks 1, 2, 15, 16 and 17. Writes the surface, and both axis lengths.

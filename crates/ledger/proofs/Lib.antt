@@ -13,3 +13,4 @@ pub mod TeethSurface
 pub mod Teeth
 pub mod Twelve
 pub mod Rows
+pub mod AtMoney

@@ -18,6 +18,7 @@ rows =
       numbers-refused = λ number n. refl;
       figures-refused = λ number n. refl;
       greeks = λ delta gamma theta vega rho vanna volga. refl;
+      money = λ strike volatility. refl;
       lengths = λ strikes expiries. refl;
       no-lengths = λ number. refl;
       built = λ strikes expiries. refl;

@@ -3,6 +3,7 @@ pub mod Fold
 pub mod Tally
 pub mod Book
 pub mod Build
+pub mod Money
 pub mod Claim
 pub mod Calls
 pub mod Rows

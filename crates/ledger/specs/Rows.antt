@@ -20,6 +20,7 @@ use Rattle.chart.specs.declared.Built.{Built}
 use Rattle.chart.specs.declared.Built.the-variants as Built
 use Rattle.ledger.specs.Model.{Opening, bsm, volatility, priced}
 use Rattle.ledger.specs.declared.Book.{Book}
+use Rattle.ledger.specs.declared.Money.{Money}
 use Rattle.ledger.specs.declared.Offer.{Offer}
 use Rattle.ledger.specs.declared.Terms.{Terms}
 use Rattle.ledger.specs.declared.Terms.the-variants.{Volatility, Price}
@@ -66,6 +67,10 @@ shortest a b c d = min a (min b (min c d))
 abbrev pub greeksEntries : Greeks → List Float
 greeksEntries g = g .delta ∷ g .gamma ∷ g .theta ∷ g .vega ∷ g .rho ∷ g .vanna ∷ g .volga ∷ []
 
+-- ---- a reading at the money: the strike that it is read at, and the volatility
+abbrev pub moneyEntries : Money → List Float
+moneyEntries m = m .strike ∷ m .volatility ∷ []
+
 -- ---- a build: both axis lengths, or twice 0; and the answer that a number and two lengths stand for
 unfoldable pub lengthsOf : Built → List ℕ
 lengthsOf (Built.Surface strikes expiries) = strikes ∷ expiries ∷ []
@@ -108,6 +113,7 @@ pub record Rows : Type 0 where
   pub greeks : (delta gamma theta vega rho vanna volga : Float)
       → greeksEntries (record { delta = delta; gamma = gamma; theta = theta; vega = vega; rho = rho; vanna = vanna; volga = volga })
       ≡ delta ∷ gamma ∷ theta ∷ vega ∷ rho ∷ vanna ∷ volga ∷ []
+  pub money : (strike volatility : Float) → moneyEntries (record { strike = strike; volatility = volatility }) ≡ strike ∷ volatility ∷ []
   -- strikes, then expiries
   pub lengths : (strikes expiries : ℕ) → lengthsOf (Built.Surface strikes expiries) ≡ strikes ∷ expiries ∷ []
   pub no-lengths : (number : ℕ) → lengthsOf (Built.Refused number) ≡ 0 ∷ 0 ∷ []

@@ -5,7 +5,8 @@ ghost use Rattle.blackscholes.specs.Checks.{outcomeOfPrice, outcomeOfGreeks, no
 ghost use Rattle.grid.specs.Readings.{readOutcome};
 ghost use Rattle.gaps.specs.Gaps.{fillOutcome};
 ghost use Rattle.chart.specs.Build.{outcome};
-ghost use Rattle.ledger.specs.Rows.{lengthsOf};
+ghost use Rattle.ledger.specs.Rows.{lengthsOf, moneyEntries};
+ghost use Rattle.ledger.specs.Money.{moneyOutcome};
 ghost use Rattle.trays.specs.Tray.{bookOf, builtOf};
 use blackscholes::Greeks;
 use blackscholes::Priced;
@@ -13,6 +14,7 @@ use blackscholes::Sensitivities;
 use chart::Built;
 use gaps::Filling;
 use grid::Reading;
+use ledger::AtTheMoney;
 use ledger::Book;
 use trays::Tray;
 
@@ -90,6 +92,25 @@ pub fn reading_value(answer: Reading) -> f64
     match answer {
         Reading::Value { volatility } => volatility,
         Reading::Refused { number: _ } => 0.0,
+    }
+}
+
+pub fn money_number(answer: AtTheMoney) -> u64
+    ensures { λ r. ⌜ r ≡ numberOf (moneyOutcome answer) ⌝ }
+{
+    match answer {
+        AtTheMoney::Value { money: _ } => 0,
+        AtTheMoney::Refused { number } => number,
+    }
+}
+
+// The strike, then the volatility.
+pub fn money_values(answer: AtTheMoney) -> [f64; 2]
+    ensures { λ r. ⌜ r ≡ moneyEntries (valuesOf (moneyOutcome answer)) ⌝ }
+{
+    match answer {
+        AtTheMoney::Value { money } => [money.strike, money.volatility],
+        AtTheMoney::Refused { number: _ } => [0.0, 0.0],
     }
 }
 

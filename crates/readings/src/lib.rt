@@ -1,12 +1,13 @@
-// The readings of a lent grid. Of src/options/surface.rs.
+// The readings of a lent grid, of src/options/surface.rs; and the strike nearest a spot, of document 02's S-2.
 ghost use mathlib.Core.Path.{_≡_};
-ghost use mathlib.Core.Bool.{false, _&&_};
+ghost use mathlib.Core.Bool.{true, false, _&&_};
 ghost use Prim.Native.Nat.{_≤_, _<_};
 ghost use lib.ListN.{length, take};
 ghost use Rattle.floats.specs.Operators.{_≺_};
 ghost use Rattle.floats.specs.Values.{finite};
 ghost use Rattle.grid.specs.Search.{firstWhere};
 ghost use Rattle.grid.specs.Readings.{isAxis, inside, fraction, above, bracket};
+ghost use Rattle.grid.specs.Nearest.{awayFrom, nearest, nearestStrike};
 ghost use Rattle.grid.specs.Readings.{corners, hasGap, bilinear, readRefusal, reading, middleStrike, readOutcome};
 use grid::Corners;
 use grid::Reading;
@@ -210,8 +211,8 @@ fn middle(strike_axis: &[f64], strikes: usize) -> f64
     }
 }
 
-// The reading at the middle strike.
-pub fn atm_vol(
+// The reading at the middle strike: the Rust's `atm_vol`.
+pub fn middle_strike(
     strike_axis: &[f64],
     expiry_axis: &[f64],
     grid: &[f64],
@@ -232,4 +233,51 @@ pub fn atm_vol(
         strike,
         expiry,
     )
+}
+
+// ---- the strike nearest a spot
+
+fn away_from(spot: f64, strike: f64) -> f64
+    ensures { λ r. ⌜ r ≡ awayFrom spot strike ⌝ }
+{
+    floats::abs(strike - spot)
+}
+
+// The index, on an axis of n values: `at` is the nearest of those before i.
+fn nearest(axis: &[f64], n: usize, spot: f64) -> usize
+    requires { ⌜ (n ≤ length (now axis)) × (isAxis (take n (now axis)) ≡ true) ⌝ }
+    ensures { λ r. ⌜ (r ≡ nearest spot (take n (now (axis .entry)))) × (r < n) ⌝ }
+{
+    let mut at = 0;
+    let mut i = 1;
+    while i < n {
+        let next = i;
+        i += 1;
+        if away_from(spot, axis[next]) < away_from(spot, axis[at]) {
+            at = next;
+        }
+    }
+    at
+}
+
+fn nearest_of(axis: &[f64], n: usize, spot: f64) -> f64
+    requires { ⌜ n ≤ length (now axis) ⌝ }
+    ensures { λ r. ⌜ r ≡ nearestStrike spot (take n (now (axis .entry))) ⌝ }
+{
+    if !is_axis(axis, n) {
+        return grid::nan();
+    }
+    let at = nearest(axis, n, spot);
+    axis[at]
+}
+
+// The strike nearest the spot, of as many as are in use; not-a-number where they are no axis.
+pub fn nearest_strike(strike_axis: &[f64], strikes: usize, spot: f64) -> f64
+    ensures { λ r. ⌜ r ≡ nearestStrike spot (take strikes (now («strike_axis» .entry))) ⌝ }
+{
+    let all = strike_axis.len();
+    if strikes > all {
+        return nearest_of(strike_axis, all, spot);
+    }
+    nearest_of(strike_axis, strikes, spot)
 }

@@ -375,7 +375,7 @@ fn judge_middle(
     expiry_axis: &[f64; 32],
     grid: &[f64; 2048],
 ) -> bool {
-    let reading = readings::atm_vol(
+    let reading = readings::middle_strike(
         strike_axis,
         expiry_axis,
         grid,

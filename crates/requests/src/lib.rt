@@ -83,6 +83,11 @@ fn book_request(name: &[u8; 6], n: usize, x: [u64; 6]) -> Request
             expiry: float_of(x[1]),
         };
     }
+    if is(name, n, b"money ", 1) {
+        return Request::Money {
+            expiry: float_of(x[0]),
+        };
+    }
     model_request(name, n, x)
 }
 

@@ -1,11 +1,12 @@
-// Rows of numbers made offers and options, and answers made rows: which entry is which is ledger/specs/Rows'.
+// Rows of numbers made offers, options and the book's record, and answers made rows: which entry is which is ledger/specs/Rows'.
 ghost use mathlib.Core.Path.{_≡_};
 ghost use Prim.Native.Nat.{min};
 ghost use Rattle.blackscholes.specs.Implied.{outcomeOfImplied};
-ghost use Rattle.ledger.specs.Rows.{kindOf, termsOf, offerOf, optionOf, numbersOf, evidenceOf, shortest};
+ghost use Rattle.ledger.specs.Rows.{kindOf, termsOf, offerOf, optionOf, numbersOf, evidenceOf, shortest, bookIn};
 use blackscholes::Implied;
 use blackscholes::OptionParams;
 use blackscholes::OptionType;
+use ledger::Book;
 use ledger::Offer;
 use ledger::Terms;
 
@@ -102,4 +103,18 @@ pub fn shortest(a: usize, b: usize, c: usize, d: usize) -> usize
     ensures { λ r. ⌜ r ≡ shortest a b c d ⌝ }
 {
     least(a, least(b, least(c, d)))
+}
+
+// The record that an opening's inputs and four totals stand for: kept, refused, heard, evaluations.
+pub fn book_of(spot: f64, rate: f64, totals: [u64; 4]) -> Book
+    ensures { λ r. ⌜ r ≡ bookIn (record { spot = spot; rate = rate }) totals ⌝ }
+{
+    Book {
+        spot,
+        rate,
+        kept: totals[0],
+        refused: totals[1],
+        heard: totals[2],
+        evaluations: totals[3],
+    }
 }

@@ -4,7 +4,8 @@ ghost use Rattle.blackscholes.specs.Model.{atVolatility};
 ghost use Rattle.blackscholes.specs.Checks.{pricing, sensitivities};
 ghost use Rattle.blackscholes.specs.Implied.{outcomeOfImplied};
 ghost use Rattle.grid.specs.Readings.{readOutcome};
-ghost use Rattle.wording.specs.Words.{valueWords, offerWords, greeksWords, buildWords, cellWords, endsWords};
+ghost use Rattle.ledger.specs.Money.{moneyOutcome};
+ghost use Rattle.wording.specs.Words.{valueWords, moneyWords, offerWords, greeksWords, buildWords, cellWords, endsWords};
 use blackscholes::Implied;
 use blackscholes::OptionParams;
 use blackscholes::Priced;
@@ -13,6 +14,7 @@ use brent::Answer;
 use chart::Built;
 use frames::bits_of;
 use grid::Reading;
+use ledger::AtTheMoney;
 
 pub fn offer_words(answer: Implied) -> [u64; 6]
     ensures { λ r. ⌜ r ≡ offerWords (outcomeOfImplied answer) ⌝ }
@@ -50,6 +52,15 @@ pub fn read_words(answer: Reading) -> [u64; 2]
     match answer {
         Reading::Value { volatility } => [0, bits_of(volatility)],
         Reading::Refused { number } => [number, 0],
+    }
+}
+
+pub fn money_words(answer: AtTheMoney) -> [u64; 3]
+    ensures { λ r. ⌜ r ≡ moneyWords (moneyOutcome answer) ⌝ }
+{
+    match answer {
+        AtTheMoney::Value { money } => [0, bits_of(money.strike), bits_of(money.volatility)],
+        AtTheMoney::Refused { number } => [number, 0, 0],
     }
 }
 

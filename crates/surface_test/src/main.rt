@@ -5,6 +5,8 @@ ghost use lib.ListN.{length};
 use chart::Built;
 use gaps::Filling;
 use grid::Reading;
+use ledger::AtTheMoney;
+use ledger::Book;
 use libc::STDIN_FILENO;
 use libc::STDOUT_FILENO;
 
@@ -203,8 +205,62 @@ fn reads(
                 expiry,
             ));
         } else {
-            say_reading(readings::atm_vol(columns, rows, grid, strikes, expiries, expiry));
+            say_reading(readings::middle_strike(columns, rows, grid, strikes, expiries, expiry));
         }
+        i += 1;
+    }
+}
+
+fn say_money(r: AtTheMoney) {
+    match r {
+        AtTheMoney::Value { money } => {
+            say(0);
+            say(bits(money.strike));
+            say(bits(money.volatility));
+        }
+        AtTheMoney::Refused { number } => {
+            say(number);
+            say(0);
+            say(0);
+        }
+    }
+}
+
+// A record: spot, rate, kept, refused, heard, evaluations.
+fn record(input: &[u8], k: usize) -> Book
+    requires { ⌜ k ≤ 200000 ⌝ }
+{
+    rows::book_of(
+        float(word(input, k)),
+        float(word(input, k + 1)),
+        [
+            word(input, k + 2),
+            word(input, k + 3),
+            word(input, k + 4),
+            word(input, k + 5),
+        ],
+    )
+}
+
+// Reads at the money: a record and an expiry each, from k on.
+fn moneys(
+    columns: &[f64],
+    lines: &[f64],
+    grid: &[f64],
+    strikes: usize,
+    expiries: usize,
+    input: &[u8],
+    k: usize,
+    n: usize,
+)
+    requires { ⌜ (k ≤ 100000) × (n ≤ 1024) ⌝ }
+{
+    let mut i = 0;
+    while i < n {
+        let at = k + 7 * i;
+        let book = record(input, at);
+        let expiry = float(word(input, at + 6));
+        say_money(money::at_the_money(book, columns, lines, grid, strikes, expiries, expiry));
         i += 1;
     }
 }
@@ -348,19 +404,33 @@ fn read_part(columns: &[f64], rows: &[f64], grid: &[f64], input: &[u8], k: usize
     let a = number(input, 3, columns.len());
     let b = number(input, 4, rows.len());
     let c = number(input, 5, grid.len());
-    reads(
-        &columns[z..a],
-        &rows[z..b],
-        &grid[z..c],
-        strikes,
-        expiries,
-        input,
-        k,
-        r,
-    );
+    if word(input, 0) == 4 {
+        moneys(
+            &columns[z..a],
+            &rows[z..b],
+            &grid[z..c],
+            strikes,
+            expiries,
+            input,
+            k,
+            r,
+        );
+    } else {
+        reads(
+            &columns[z..a],
+            &rows[z..b],
+            &grid[z..c],
+            strikes,
+            expiries,
+            input,
+            k,
+            r,
+        );
+    }
 }
 
 // 3: strikes, expiries, how much of both axes and of the grid is lent, three numbers of pokes, r; the pokes of the axes and the grid; r reads.
+// 4: the same, with reads at the money.
 fn run_reads(input: &[u8]) {
     let mut columns = [7.0f64; 64];
     let mut rows = [7.0f64; 32];

@@ -2,17 +2,19 @@
 use mathlib.Core.Path.{refl}
 use lib.Ieee.{toBits, round}
 use Rattle.brent.specs.Outcome.{zeros}
-use Rattle.wording.specs.Words.{valueWords, offerWords, greeksWords, buildWords, cellWords, endsWords}
-use Rattle.wording.specs.Requests.{called, same, requestOf, bookRequest, modelRequest, offerOf, optionOf}
+use Rattle.wording.specs.Words.{valueWords, moneyWords, offerWords, greeksWords, buildWords, cellWords, endsWords}
+use Rattle.wording.specs.Requests.{called, requestOf, offerOf, optionOf}
 use Rattle.wording.specs.Laws.{Laws}
 
 pub laws : Laws
-unfolding valueWords offerWords greeksWords buildWords cellWords endsWords called same requestOf bookRequest modelRequest offerOf optionOf zeros toBits round
+unfolding valueWords moneyWords offerWords greeksWords buildWords cellWords endsWords called requestOf offerOf optionOf zeros toBits round
 laws =
     record {
       offer-found = λ v e c f n. refl;
       offer-refused = λ number n. refl;
       value = λ v. refl;
+      money = λ strike volatility. refl;
+      no-money = λ number. refl;
       greeks = λ delta gamma theta vega rho vanna volga. refl;
       cell = λ v count. refl;
       built = λ strikes expiries. refl;
@@ -25,6 +27,7 @@ laws =
       asks-vol = λ k t v xs. refl;
       asks-build = λ xs. refl;
       asks-read = λ k t xs. refl;
+      asks-money = λ t xs. refl;
       asks-price = λ s k t r v xs. refl;
       asks-greeks = λ s k t r v xs. refl;
       asks-ends = λ k t m xs. refl;

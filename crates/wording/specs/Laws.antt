@@ -15,9 +15,10 @@ use Rattle.blackscholes.specs.Checks.{pricing}
 use Rattle.chart.specs.declared.Built.the-variants as Built
 use Rattle.hex.specs.Examples.{bytes}
 use Rattle.ledger.specs.Model.{volatility, priced}
+use Rattle.ledger.specs.Money.{noMoney}
 use Rattle.wording.specs.declared.Request.{Request}
-use Rattle.wording.specs.declared.Request.the-variants.{Open, Offer, Build, Read, Price, Greeks, Ends, Bad}
-use Rattle.wording.specs.Words.{valueWords, offerWords, greeksWords, buildWords, cellWords, endsWords}
+use Rattle.wording.specs.declared.Request.the-variants.{Open, Offer, Build, Read, Money, Price, Greeks, Ends, Bad}
+use Rattle.wording.specs.Words.{valueWords, moneyWords, offerWords, greeksWords, buildWords, cellWords, endsWords}
 use Rattle.wording.specs.Requests.{requestOf}
 
 -- A float as its word, and a word as its float.
@@ -38,6 +39,8 @@ pub record Laws : Type 0 where
   pub offer-refused : (number n : ℕ) → offerWords (refused number (zeros n)) ≡ number ∷ n ∷ 0 ∷ 0 ∷ 0 ∷ 0 ∷ []
   -- a price or a reading, the greeks, a cell
   pub value : (v : Float) → valueWords (done v) ≡ 0 ∷ wordOf v ∷ []
+  pub money : (strike volatility : Float) → moneyWords (done (record { strike = strike; volatility = volatility })) ≡ 0 ∷ wordOf strike ∷ wordOf volatility ∷ []
+  pub no-money : (number : ℕ) → moneyWords (refused number noMoney) ≡ number ∷ 0 ∷ 0 ∷ []
   pub greeks : (delta gamma theta vega rho vanna volga : Float)
       → greeksWords (done (record { delta = delta; gamma = gamma; theta = theta; vega = vega; rho = rho; vanna = vanna; volga = volga }))
       ≡ 0 ∷ wordOf delta ∷ wordOf gamma ∷ wordOf theta ∷ wordOf vega ∷ wordOf rho ∷ wordOf vanna ∷ wordOf volga ∷ []
@@ -59,6 +62,7 @@ pub record Laws : Type 0 where
   pub asks-vol : (k t v : ℕ) (xs : List ℕ) → requestOf (bytes "vol   ") 3 (k ∷ t ∷ v ∷ xs) ≡ Offer (volatility (floatOf k) (floatOf t) (floatOf v))
   pub asks-build : (xs : List ℕ) → requestOf (bytes "build ") 0 xs ≡ Build
   pub asks-read : (k t : ℕ) (xs : List ℕ) → requestOf (bytes "read  ") 2 (k ∷ t ∷ xs) ≡ Read (floatOf k) (floatOf t)
+  pub asks-money : (t : ℕ) (xs : List ℕ) → requestOf (bytes "money ") 1 (t ∷ xs) ≡ Money (floatOf t)
   -- and of the model: the first word is 0 for a call, 1 for a put
   pub asks-price : (s k t r v : ℕ) (xs : List ℕ) → requestOf (bytes "price ") 6 (0 ∷ s ∷ k ∷ t ∷ r ∷ v ∷ xs)
       ≡ Price (optionAt Call (floatOf s) (floatOf k) (floatOf t) (floatOf r) (floatOf v))

@@ -12,7 +12,7 @@ use Rattle.blackscholes.specs.declared.OptionParams.{OptionParams}
 use Rattle.ledger.specs.Rows.{kindOf}
 unfoldable pub use Rattle.ledger.specs.Rows.{offerOf, optionOf}
 use Rattle.wording.specs.declared.Request.{Request}
-use Rattle.wording.specs.declared.Request.the-variants.{Open, Offer, Build, Read, Price, Greeks, Ends, Bad}
+use Rattle.wording.specs.declared.Request.the-variants.{Open, Offer, Build, Read, Money, Price, Greeks, Ends, Bad}
 
 abbrev pub sameAt : List ℕ → List ℕ → ℕ → Bool
 sameAt a b i = eqb (getD a i 0) (getD b i 0)
@@ -52,7 +52,8 @@ unfolding modelRequest
 bookRequest name n x =
     if called name n (bytes "open  ") 2 then Open (float x 0) (float x 1) else
     (if called name n (bytes "build ") 0 then Build else
-    (if called name n (bytes "read  ") 2 then Read (float x 0) (float x 1) else modelRequest name n x))
+    (if called name n (bytes "read  ") 2 then Read (float x 0) (float x 1) else
+    (if called name n (bytes "money ") 1 then Money (float x 0) else modelRequest name n x)))
 
 unfoldable pub requestOf : List ℕ → ℕ → List ℕ → Request
 unfolding bookRequest

@@ -10,6 +10,7 @@ use Rattle.blackscholes.specs.declared.Greeks.{Greeks}
 use Rattle.blackscholes.specs.declared.OptionParams.{OptionParams}
 use Rattle.blackscholes.specs.Model.{atVolatility}
 use Rattle.blackscholes.specs.Checks.{pricing}
+use Rattle.ledger.specs.declared.Money.{Money}
 use Rattle.chart.specs.declared.Built.{Built}
 use Rattle.chart.specs.declared.Built.the-variants as Built
 
@@ -19,6 +20,10 @@ bits x = toBits binary64 x
 -- A price or a reading: its number and its value.
 unfoldable pub valueWords : Outcome Float → List ℕ
 valueWords o = numberOf o ∷ bits (valuesOf o) ∷ []
+
+-- A reading at the money: number, strike, volatility.
+unfoldable pub moneyWords : Outcome Money → List ℕ
+moneyWords o = numberOf o ∷ bits (valuesOf o .strike) ∷ bits (valuesOf o .volatility) ∷ []
 
 -- An offer: number, evaluations, volatility, error, point c, the error there.
 unfoldable pub offerWords : Outcome Solution → List ℕ

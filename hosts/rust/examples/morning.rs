@@ -1,7 +1,7 @@
 //! A morning's tray through the crate, with the desk's troubles in it: a blank strike, a missing price, two strikes a hair apart, a price
 //! that no volatility gives, a missing rate. ../c/example.c prints the same.
 use kitesettee::{
-    bsm_greeks, bsm_price, fill_gaps, implied_volatility, normal, quote_tray, Offer, OptionParams,
+    bsm_greeks, bsm_price, fill_gaps, implied_volatility, normal, quote_tray, AtTheMoney, Book, Offer, OptionParams,
     OptionType::{Call, Put},
     Quote, Refusal, Solved, Surface, Unsolved,
 };
@@ -24,6 +24,14 @@ fn result(x: f64) -> String {
 fn answer(x: Result<f64, Refusal>) -> String {
     match x {
         Ok(x) => result(x),
+        Err(refusal) => refusal.to_string(),
+    }
+}
+
+/// A reading with the strike that it was read at.
+fn at_the_money(x: Result<AtTheMoney, Refusal>) -> String {
+    match x {
+        Ok(x) => format!("strike {}, {}", number(x.strike), result(x.volatility)),
         Err(refusal) => refusal.to_string(),
     }
 }
@@ -74,6 +82,7 @@ fn tray() -> Result<(), Refusal> {
     }
     let t = tray.totals;
     println!("kept {}, refused {}, heard {}, evaluations {}", t.kept, t.refused, t.heard, t.evaluations);
+    let book = tray.book();
     let surface = tray.surface?;
     let strikes: Vec<String> = surface.strikes().iter().map(|&k| number(k)).collect();
     println!("strikes {}", strikes.join(" "));
@@ -86,7 +95,11 @@ fn tray() -> Result<(), Refusal> {
     }
     println!("at 102.5, 0.75: {}", answer(surface.interpolate(102.5, 0.75)));
     println!("at 110, 0.75: {}", answer(surface.interpolate(110.0, 0.75)));
-    println!("at the money, 0.75: {}", answer(surface.atm_vol(0.75)));
+    println!("at the middle strike, 0.75: {}", answer(surface.middle_strike(0.75)));
+    println!("at the money, 0.75: {}", at_the_money(surface.at_the_money(&book, 0.75)));
+    // Had the spot risen.
+    let risen = Book { spot: 104.0, ..book };
+    println!("at the money of a spot of 104, 0.75: {}", at_the_money(surface.at_the_money(&risen, 0.75)));
     Ok(())
 }
 

@@ -87,7 +87,7 @@ extern "C" {
         volatility: &mut f64,
     ) -> u64;
 
-    pub fn kite_atm_vol(
+    pub fn kite_middle_strike(
         strike_axis: *const f64,
         strike_axis_len: usize,
         expiry_axis: *const f64,
@@ -98,5 +98,21 @@ extern "C" {
         expiries: u64,
         expiry: f64,
         volatility: &mut f64,
+    ) -> u64;
+
+    pub fn kite_at_the_money(
+        spot: f64,
+        rate: f64,
+        totals: &[u64; 4],
+        strike_axis: *const f64,
+        strike_axis_len: usize,
+        expiry_axis: *const f64,
+        expiry_axis_len: usize,
+        grid: *const f64,
+        grid_len: usize,
+        strikes: u64,
+        expiries: u64,
+        expiry: f64,
+        values: &mut [f64; 2],
     ) -> u64;
 }

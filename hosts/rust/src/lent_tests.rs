@@ -230,3 +230,61 @@ fn a_read_of_any_memory() {
     // A gap in use.
     assert_eq!(read(&ks, &ts, &grid, 3, 2, 105.0, 0.75), (20, 0.0));
 }
+
+/// At the money of a spot, by a record whose kept count is given too.
+fn money(spot: f64, kept: u64, [ks, ts, grid]: [&[f64]; 3], strikes: u64, expiries: u64, expiry: f64) -> (u64, [f64; 2]) {
+    let mut values = [MARK; 2];
+    let totals = [kept, 0, kept, 0];
+    // SAFETY: pointers and lengths of slices that are only read, and two arrays of this function's own.
+    let number = unsafe {
+        ffi::kite_at_the_money(
+            spot,
+            0.03,
+            &totals,
+            ks.as_ptr(),
+            ks.len(),
+            ts.as_ptr(),
+            ts.len(),
+            grid.as_ptr(),
+            grid.len(),
+            strikes,
+            expiries,
+            expiry,
+            &mut values,
+        )
+    };
+    (number, values)
+}
+
+#[test]
+fn at_the_money_of_any_memory() {
+    // What is not in use is nearer to the spot than any strike that is.
+    let mut ks = vec![100.0; 64];
+    let mut ts = vec![MARK; 32];
+    let mut grid = vec![f64::NAN; 2048];
+    ks[..3].copy_from_slice(&[90.0, 108.0, 120.0]);
+    ts[..2].copy_from_slice(&[0.5, 1.0]);
+    grid[..2].copy_from_slice(&[0.25, 0.5]);
+    grid[64..66].copy_from_slice(&[0.75, 1.0]);
+    let all: [&[f64]; 3] = [&ks, &ts, &grid];
+    let refused = |number| (number, [0.0; 2]);
+    assert_eq!(money(95.0, 9, all, 3, 2, 0.75), (0, [90.0, 0.5]));
+    // The cells to the right of the strike are looked at too, and at 108 they are gaps.
+    assert_eq!(money(100.0, 9, all, 3, 2, 0.75), refused(20));
+    assert_eq!(money(100.0, 9, all, 2, 2, 0.75), (0, [108.0, 0.75]));
+    assert_eq!(money(100.0, 9, all, 3, 2, 1.5), refused(20));
+    assert_eq!(money(100.0, 9, all, 4, 2, 1.5), refused(18));
+    assert_eq!(money(100.0, 9, all, 3, 3, 1.5), refused(18));
+    for (strikes, expiries) in [(0, 2), (3, 0), (0, 0)] {
+        assert_eq!(money(100.0, 9, all, strikes, expiries, 1.5), refused(18));
+    }
+    for short in [[&ks[..63], &ts, &grid], [&ks, &ts[..31], &grid], [&ks, &ts, &grid[..2047]], [&[], &[], &[]]] {
+        assert_eq!(money(100.0, 9, short, 0, 2, 1.5), refused(15));
+        for (strikes, expiries) in [(65, 2), (3, 33), (u64::MAX, u64::MAX)] {
+            assert_eq!(money(100.0, 9, short, strikes, expiries, 1.5), refused(2));
+        }
+        for (spot, kept) in [(0.0, 9), (f64::NAN, 9), (100.0, 1025)] {
+            assert_eq!(money(spot, kept, short, 3, 2, 1.5), refused(2));
+        }
+    }
+}

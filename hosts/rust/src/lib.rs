@@ -43,5 +43,5 @@ pub mod normal;
 
 pub use option::{bsm_greeks, bsm_price, implied_volatility, Greeks, OptionParams, OptionType, Solved, Unsolved};
 pub use refusal::Refusal;
-pub use surface::{fill_gaps, Cell, Quote, Surface};
-pub use tray::{quote_tray, Offer, Totals, Tray};
+pub use surface::{fill_gaps, AtTheMoney, Cell, Quote, Surface};
+pub use tray::{quote_tray, Book, Offer, Totals, Tray};

@@ -19,7 +19,7 @@ use std::{error, fmt};
 pub enum Refusal {
     /// A lent quote column has fewer than 1,024 entries. (This crate lends its own, so that none of its calls gives it.)
     ShortColumn = 1,
-    /// More than 1,024 quotes, or one of them out of range; or more than 64 strikes or 32 expiries.
+    /// More than 1,024 quotes, or one of them out of range; or more than 64 strikes or 32 expiries; or a book's record out of bounds.
     OutOfBounds = 2,
     /// The book has heard 60,000 offers.
     BookClosed = 3,
@@ -98,7 +98,7 @@ impl Refusal {
     pub const fn words(self) -> &'static str {
         match self {
             Refusal::ShortColumn => "a quote column has fewer than 1,024 entries",
-            Refusal::OutOfBounds => "too many quotes, strikes or expiries, or a kept quote out of range",
+            Refusal::OutOfBounds => "too many quotes, strikes or expiries, a kept quote out of range, or a book's record out of bounds",
             Refusal::BookClosed => "the book has heard 60,000 offers",
             Refusal::BookFull => "the book has kept 1,024 quotes",
             Refusal::Price => "the market price is not finite or not above 0",

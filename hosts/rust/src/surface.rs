@@ -1,6 +1,7 @@
 use crate::{
     ffi,
     refusal::{check, Refusal},
+    tray::Book,
 };
 
 /// Least entries of a quote column, and the most quotes.
@@ -27,6 +28,15 @@ pub struct Cell {
     pub volatility: f64,
     /// How many quotes the cell has.
     pub count: u64,
+}
+
+/// A reading at the money: the strike nearest the spot, and the volatility there.
+#[derive(Debug, Clone, Copy, PartialEq)]
+pub struct AtTheMoney {
+    /// The strike that was read at, one of the surface's.
+    pub strike: f64,
+    /// The volatility there.
+    pub volatility: f64,
 }
 
 /// A volatility surface: a row for each expiry, a column for each strike.
@@ -167,12 +177,13 @@ impl Surface {
         check(number).map(|()| volatility)
     }
 
-    /// The volatility at the middle strike, that at index n/2 of n. Refuses 18 and 20, as [`interpolate`](Surface::interpolate) does.
-    pub fn atm_vol(&self, expiry: f64) -> Result<f64, Refusal> {
+    /// The volatility at the middle strike, that at index n/2 of n, wherever the spot is: `atm_vol` of the Rust that document 01 names.
+    /// Refuses 18 and 20, as [`interpolate`](Surface::interpolate) does.
+    pub fn middle_strike(&self, expiry: f64) -> Result<f64, Refusal> {
         let mut volatility = 0.0;
         // SAFETY: as in `interpolate`.
         let number = unsafe {
-            ffi::kite_atm_vol(
+            ffi::kite_middle_strike(
                 self.strike_axis.as_ptr(),
                 self.strike_axis.len(),
                 self.expiry_axis.as_ptr(),
@@ -186,6 +197,45 @@ impl Surface {
             )
         };
         check(number).map(|()| volatility)
+    }
+
+    /// The volatility at the strike nearest a book's spot: the one whose difference from it, as a float, has the least magnitude, the lower one on
+    /// a tie. Refuses 2 (the book's record is out of bounds) before all else, then 18 and 20, as [`interpolate`](Surface::interpolate) does.
+    ///
+    /// ```
+    /// use kitesettee::{quote_tray, AtTheMoney, Offer, Refusal};
+    ///
+    /// // Strikes bunched low: the middle one is nowhere near the spot.
+    /// let offer = |strike, volatility| Offer::Volatility { strike, expiry: 0.5, volatility };
+    /// let tray = quote_tray(100.0, 0.03, &[offer(60.0, 0.5), offer(65.0, 0.375), offer(98.0, 0.25)])?;
+    /// let book = tray.book();
+    /// let surface = tray.surface?;
+    /// assert_eq!(surface.middle_strike(0.5), Ok(0.375));
+    /// assert_eq!(surface.at_the_money(&book, 0.5), Ok(AtTheMoney { strike: 98.0, volatility: 0.25 }));
+    /// # Ok::<(), Refusal>(())
+    /// ```
+    pub fn at_the_money(&self, book: &Book, expiry: f64) -> Result<AtTheMoney, Refusal> {
+        let mut values = [0.0; 2];
+        // SAFETY: as in `interpolate`; the record is only read, and `values` is this function's own.
+        let number = unsafe {
+            ffi::kite_at_the_money(
+                book.spot,
+                book.rate,
+                &book.totals.row(),
+                self.strike_axis.as_ptr(),
+                self.strike_axis.len(),
+                self.expiry_axis.as_ptr(),
+                self.expiry_axis.len(),
+                self.grid.as_ptr(),
+                self.grid.len(),
+                self.lengths[0],
+                self.lengths[1],
+                expiry,
+                &mut values,
+            )
+        };
+        let [strike, volatility] = values;
+        check(number).map(|()| AtTheMoney { strike, volatility })
     }
 }
 

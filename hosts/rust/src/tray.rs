@@ -61,9 +61,36 @@ pub struct Totals {
     pub evaluations: u64,
 }
 
+impl Totals {
+    /// Of a row of four, as the library writes it.
+    fn of([kept, refused, heard, evaluations]: [u64; 4]) -> Totals {
+        Totals { kept, refused, heard, evaluations }
+    }
+
+    /// The same row, as the library takes it.
+    pub(crate) fn row(&self) -> [u64; 4] {
+        [self.kept, self.refused, self.heard, self.evaluations]
+    }
+}
+
+/// A book's record: what it was opened on, and what it came to. Calls that take it check it, by 2.
+#[derive(Debug, Clone, Copy, PartialEq)]
+pub struct Book {
+    /// The spot, 0.000001 to 1,000,000,000.
+    pub spot: f64,
+    /// The rate a year, -1 to 1.
+    pub rate: f64,
+    /// The counts; `evaluations` is at most 52 times `heard`.
+    pub totals: Totals,
+}
+
 /// A tray that was heard.
 #[derive(Debug, Clone, PartialEq)]
 pub struct Tray {
+    /// The spot that the book was opened on.
+    pub spot: f64,
+    /// The rate that it was opened on.
+    pub rate: f64,
     /// Of each offer, in order: its volatility with the evidence, or why it was refused and after how many evaluations. A price that 3 and 4 let
     /// through is answered as [`implied_volatility`](crate::implied_volatility) answers it; an accepted volatility is its own answer, with an
     /// error, a `c` and a `c_error` of 0.0 and 0 evaluations. [`volatilities`](Tray::volatilities) leaves the evidence out.
@@ -77,6 +104,11 @@ pub struct Tray {
 }
 
 impl Tray {
+    /// The book's record, for [`Surface::at_the_money`].
+    pub fn book(&self) -> Book {
+        Book { spot: self.spot, rate: self.rate, totals: self.totals }
+    }
+
     /// Of each offer, in order: the volatility that was accepted, or why it was not.
     ///
     /// ```
@@ -166,12 +198,15 @@ pub fn quote_tray(spot: f64, rate: f64, offers: &[Offer]) -> Result<Tray, Refusa
     if let Err(refusal @ (Refusal::Spot | Refusal::Rate)) = built {
         return Err(refusal);
     }
-    let [kept, refused, heard, evaluations] = totals;
-    let quotes = (0..kept as usize).map(|i| Quote { strike: strikes[i], expiry: expiries[i], volatility: volatilities[i] }).collect();
+    let totals = Totals::of(totals);
+    let quotes =
+        (0..totals.kept as usize).map(|i| Quote { strike: strikes[i], expiry: expiries[i], volatility: volatilities[i] }).collect();
     Ok(Tray {
+        spot,
+        rate,
         answers: numbers.iter().zip(&evidence).map(|(&[number, evaluations], &values)| answered(number, values, evaluations)).collect(),
         quotes,
-        totals: Totals { kept, refused, heard, evaluations },
+        totals,
         surface: built.map(|()| surface.sized(lengths)),
     })
 }

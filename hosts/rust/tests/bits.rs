@@ -236,8 +236,54 @@ fn readings() {
     }
     let table = [(0.25, 0x3FD3333333333333), (0.4, 0x3FCDF3B645A1CAC0), (0.75, 0x3FCC28F5C28F5C29), (1.0, 0x3FD0000000000000)];
     for (expiry, bits) in table {
-        same(surface.atm_vol(expiry).unwrap(), bits);
+        same(surface.middle_strike(expiry).unwrap(), bits);
     }
+}
+
+/// The strike at the money of a book with that spot and a volatility for each strike, no two alike, at two expiries.
+#[track_caller]
+fn money(spot: f64, strikes: &[f64]) -> f64 {
+    let offers: Vec<Offer> =
+        (0..2 * strikes.len()).map(|i| volatility(strikes[i / 2], [0.5, 1.0][i % 2], 0.25 + i as f64 / 64.0)).collect();
+    let tray = quote_tray(spot, 0.03, &offers).unwrap();
+    let book = tray.book();
+    assert_eq!((book.spot, book.rate, book.totals), (spot, 0.03, tray.totals));
+    let surface = tray.surface.unwrap();
+    assert_eq!(surface.strikes(), strikes);
+    let strike = surface.at_the_money(&book, 0.5).unwrap().strike;
+    for expiry in [0.5, 0.75, 1.0] {
+        let read = surface.at_the_money(&book, expiry).unwrap();
+        same(read.strike, strike.to_bits());
+        same(read.volatility, surface.interpolate(strike, expiry).unwrap().to_bits());
+    }
+    strike
+}
+
+#[test]
+fn the_strike_nearest_the_spot() {
+    // Bunched low, where the middle strike is 50; bunched high, where it is 150.
+    same(money(100.0, &[40.0, 45.0, 50.0, 55.0, 99.0]), 99f64.to_bits());
+    same(money(100.0, &[99.0, 145.0, 150.0, 155.0]), 99f64.to_bits());
+    // On a strike, and a last place off the middle of two.
+    same(money(100.0, &[95.0, 100.0, 105.0]), 100f64.to_bits());
+    same(money(100.00000000000001, &[95.0, 105.0]), 105f64.to_bits());
+    same(money(99.99999999999999, &[95.0, 105.0]), 95f64.to_bits());
+    // One strike; a spot below the axis, and above it.
+    same(money(100.0, &[7.0]), 7f64.to_bits());
+    same(money(0.000001, &[90.0, 100.0, 110.0]), 90f64.to_bits());
+    same(money(1e9, &[90.0, 100.0, 110.0]), 110f64.to_bits());
+}
+
+#[test]
+fn the_lower_strike_on_a_tie() {
+    same(money(100.0, &[95.0, 105.0]), 95f64.to_bits());
+    same(money(100.0, &[60.0, 95.0, 105.0, 110.0]), 95f64.to_bits());
+    // By float difference: exactly, the upper strike is nearer by 2^-56.
+    let low = 0.125 - 1.0 / (1u64 << 56) as f64;
+    assert!(low < 0.125 && 1000.0 - low == 999.875);
+    same(money(1000.0, &[low, 1999.875]), low.to_bits());
+    // All three are as far from the spot, by float difference, though all lie below it.
+    same(money(1e9, &[0.000001, 0.000001002, 0.000001004]), 0.000001f64.to_bits());
 }
 
 /// The same tray as in examples/morning.rs.
@@ -383,8 +429,9 @@ fn an_empty_surface() {
     let surface = Surface::from_quotes(&[]).unwrap();
     assert!(surface.strikes().is_empty() && surface.expiries().is_empty());
     assert_eq!(surface.interpolate(100.0, 1.0), Err(Refusal::NoSurface));
-    assert_eq!(surface.atm_vol(1.0), Err(Refusal::NoSurface));
+    assert_eq!(surface.middle_strike(1.0), Err(Refusal::NoSurface));
     let tray = quote_tray(100.0, 0.0, &[]).unwrap();
+    assert_eq!(surface.at_the_money(&tray.book(), 1.0), Err(Refusal::NoSurface));
     assert_eq!(tray.totals.heard, 0);
     assert_eq!(tray.surface, Ok(surface));
 }

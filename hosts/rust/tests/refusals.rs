@@ -1,11 +1,15 @@
 //! Damaged inputs: each is turned down by its own number, the first in document 01's order, and nothing is guessed.
 use kitesettee::{
-    bsm_greeks, bsm_price, fill_gaps, implied_volatility, quote_tray, Offer, OptionParams, OptionType, Quote, Refusal, Surface, Unsolved,
+    bsm_greeks, bsm_price, fill_gaps, implied_volatility, quote_tray, AtTheMoney, Book, Offer, OptionParams, OptionType, Quote, Refusal,
+    Surface, Totals, Unsolved,
 };
 use std::error::Error;
 
 const GOOD: OptionParams =
     OptionParams { spot: 100.0, strike: 105.0, time_to_expiry: 0.5, risk_free_rate: 0.03, volatility: 0.25, option_type: OptionType::Put };
+
+/// A record that a book may leave.
+const BOOK: Book = Book { spot: 100.0, rate: 0.03, totals: Totals { kept: 2, refused: 1, heard: 3, evaluations: 7 } };
 
 /// Values in no range of document 01.
 const WILD: [f64; 5] = [f64::NAN, f64::INFINITY, f64::NEG_INFINITY, -1.0000000000000002, 1e10];
@@ -193,10 +197,46 @@ fn a_read_outside() {
     }
     for expiry in [before(0.5), after(1.0), f64::NAN, f64::NEG_INFINITY] {
         assert_eq!(surface.interpolate(100.0, expiry), Err(Refusal::ExpiryRead));
-        assert_eq!(surface.atm_vol(expiry), Err(Refusal::ExpiryRead));
+        assert_eq!(surface.middle_strike(expiry), Err(Refusal::ExpiryRead));
+        assert_eq!(surface.at_the_money(&BOOK, expiry), Err(Refusal::ExpiryRead));
     }
     for (strike, expiry) in [(90.0, 0.5), (110.0, 1.0), (90.0, 1.0), (110.0, 0.5)] {
         assert!(surface.interpolate(strike, expiry).is_ok());
+    }
+}
+
+/// Records at the ends of their bounds, and past each of them.
+fn records() -> (Vec<Book>, Vec<Book>) {
+    let of = |kept, refused, heard, evaluations| Book { totals: Totals { kept, refused, heard, evaluations }, ..BOOK };
+    let spot = |spot| Book { spot, ..BOOK };
+    let rate = |rate| Book { rate, ..BOOK };
+    let mut good =
+        vec![BOOK, of(0, 0, 0, 0), of(1024, 0, 1024, 0), of(0, 60000, 60000, 0), of(1024, 58976, 60000, 3_120_000), of(1, 2, 3, 156)];
+    good.extend([spot(0.000001), spot(1e9), rate(-1.0), rate(1.0), rate(-0.0)]);
+    let mut broken = vec![of(1025, 0, 1025, 0), of(2, 1, 2, 7), of(2, 1, 4, 7), of(0, 60001, 60001, 0), of(1, 2, 3, 157), of(0, 0, 0, 1)];
+    // Sums that come out right only modulo 2^64.
+    broken.extend([of(5, u64::MAX - 1, 3, 7), of(u64::MAX, 4, 3, 7)]);
+    broken.extend(WILD.into_iter().flat_map(|x| [spot(x), rate(x)]));
+    broken.extend([spot(0.0), spot(before(0.000001)), spot(after(1e9)), rate(after(1.0)), rate(-after(1.0))]);
+    (good, broken)
+}
+
+#[test]
+fn a_book_out_of_bounds() {
+    let quote = |strike, volatility| Quote { strike, expiry: 0.5, volatility };
+    let surface = Surface::from_quotes(&[quote(90.0, 0.25), quote(110.0, 0.5)]).unwrap();
+    let empty = Surface::from_quotes(&[]).unwrap();
+    let (good, broken) = records();
+    for book in good {
+        let (strike, volatility) = if book.spot > 100.0 { (110.0, 0.5) } else { (90.0, 0.25) };
+        assert_eq!(surface.at_the_money(&book, 0.5), Ok(AtTheMoney { strike, volatility }), "{book:?}");
+        assert_eq!(surface.at_the_money(&book, f64::NAN), Err(Refusal::ExpiryRead), "{book:?}");
+        assert_eq!(empty.at_the_money(&book, f64::NAN), Err(Refusal::NoSurface), "{book:?}");
+    }
+    for book in broken {
+        for (surface, expiry) in [(&surface, 0.5), (&surface, f64::NAN), (&empty, 0.5)] {
+            assert_eq!(surface.at_the_money(&book, expiry), Err(Refusal::OutOfBounds), "{book:?}");
+        }
     }
 }
 

@@ -131,7 +131,7 @@ impl Held {
                 (vec![bits(cell.volatility), cell.count], 1)
             }
             "read" => (told(surface?.interpolate(words.float(0), words.float(1)).map(|v| [v])), 2),
-            "middle" => (told(surface?.atm_vol(words.float(0)).map(|v| [v])), 1),
+            "middle" => (told(surface?.middle_strike(words.float(0)).map(|v| [v])), 1),
             "gap" => {
                 self.cells[words.index(0)] = words.float(1);
                 return None;

@@ -8,7 +8,7 @@ mod ours;
 
 use oracle::checks::{self, cause, Check};
 use oracle::greeks_noted::{bsm_greeks, bsm_price, implied_volatility, GreekError, OptionParams};
-use oracle::questions::{self, Asked, Family, Made, Offers, Quotes, FAMILIES, FUNCTIONS, MARKET, OPTION};
+use oracle::questions::{self, Asked, Family, Made, Offers, Quotes, Record, FAMILIES, FUNCTIONS, MARKET, OPTION};
 use oracle::random::Random;
 use oracle::surface_noted::{VolPoint, VolSurface};
 use oracle::{greeks_fed, greeks_noted, normal, notes, reference};
@@ -35,11 +35,12 @@ fn differs(check: u64, cause: impl Into<String>, rust: &'static str, answer: imp
     Differs { class: (check, cause.into(), rust), answer: answer.into() }
 }
 
-/// Why 01 turns such a question down: the differences that follow from document 01, and no others.
+/// Why 01 turns such a question down: the differences that follow from documents 01 and 02, and no others.
 fn reason(check: u64, cause: &str) -> Option<&'static str> {
     let blank = cause.ends_with("not-a-number");
     Some(match check {
         1 | 15 => "lent memory is ours: the Rust allocates its own",
+        2 if cause.starts_with("record") => "01's bounds of a book's record, which S-2 has a reading at the money take; the Rust has no book",
         2 if cause.starts_with("more than") => "01's largest surface; the Rust's has no limit",
         2 if blank => "01's ranges of kept quotes, which no not-a-number passes; the Rust builds from any numbers",
         2 => "01's ranges of kept quotes; the Rust builds from any numbers",
@@ -255,7 +256,7 @@ impl<S: Question> Question for Read<S> {
         out
     }
     fn shown(&self) -> String {
-        let strike = self.strike.map_or("at the money".to_string(), |k| format!("strike {}", show(k)));
+        let strike = self.strike.map_or("the middle strike".to_string(), |k| format!("strike {}", show(k)));
         format!("{}; read {strike}, expiry {}", self.of.shown(), show(self.expiry))
     }
 }
@@ -306,6 +307,51 @@ impl Question for Made {
         let list = |xs: &[f64]| xs.iter().map(|x| show(*x)).collect::<Vec<_>>().join(", ");
         let rows: Vec<String> = self.grid.iter().take(4).map(|row| format!("[{}]", list(row))).collect();
         format!("strikes [{}], expiries [{}], cells {}", list(&self.strikes), list(&self.expiries), rows.join(" "))
+    }
+}
+
+/// A reading at the money of a surface made by hand, the lengths its buffers are lent with, and the sizes that are claimed where not its own.
+#[derive(Clone)]
+struct Money {
+    of: Made,
+    record: Record,
+    expiry: f64,
+    lent: [usize; 3],
+    claimed: Option<[u64; 2]>,
+}
+
+impl Money {
+    /// Lent and claimed as it is.
+    fn is_plain(&self) -> bool {
+        self.lent == [64, 32, 2048] && self.claimed.is_none()
+    }
+}
+
+impl Question for Money {
+    fn smaller(&self) -> Vec<Self> {
+        let with = |record| Money { record, ..self.clone() };
+        let mut out: Vec<Self> = self.of.smaller().into_iter().map(|of| Money { of, ..self.clone() }).collect();
+        if !self.is_plain() {
+            out.push(Money { lent: [64, 32, 2048], claimed: None, ..self.clone() });
+        }
+        out.extend(simpler(self.expiry, 1.0).into_iter().map(|expiry| Money { expiry, ..self.clone() }));
+        out.extend(simpler(self.record.spot, 100.0).into_iter().map(|spot| with(Record { spot, ..self.record })));
+        out.extend(simpler(self.record.rate, 0.0).into_iter().map(|rate| with(Record { rate, ..self.record })));
+        // By halves, since a count by ones would take long.
+        let totals = self.record.totals;
+        let mut fewer = vec![[0; 4], [0, 0, 0, totals[3]], totals.map(|n| n / 2)];
+        for i in 0..4 {
+            fewer.push(totals);
+            fewer.last_mut().unwrap()[i] /= 2;
+        }
+        fewer.retain(|t| *t != totals);
+        out.extend(fewer.into_iter().map(|totals| with(Record { totals, ..self.record })));
+        out
+    }
+    fn shown(&self) -> String {
+        let lent = if self.is_plain() { String::new() } else { format!("; buffers of {:?}, sizes claimed {:?}", self.lent, self.claimed) };
+        let Record { spot, rate, totals } = self.record;
+        format!("{}; spot {}, rate {}, totals {totals:?}, expiry {}{lent}", self.of.shown(), show(spot), show(rate), show(self.expiry))
     }
 }
 
@@ -765,36 +811,46 @@ fn build(q: &Build) -> Verdict {
     build_verdict(q, &b, number, &rust)
 }
 
-/// A reading of the two surfaces, which hold the same.
-fn reading(b: &Buffers, s: &VolSurface, strike: Option<f64>, expiry: f64) -> Verdict {
-    let (number, got) = ours::read(b, strike, expiry);
+/// Which of 18 to 20 holds of a reading, and why; without a strike, of one on the axis. `gap` is whether the Rust reads nothing.
+fn read_check(s: &VolSurface, strike: Option<f64>, expiry: f64, gap: bool) -> (u64, String) {
     let (ks, ts) = (s.strikes(), s.expiries());
-    let rust = match strike {
-        Some(k) => s.interpolate(k, expiry),
-        None => s.atm_vol(expiry),
-    };
     let outside = |axis: &[f64], x: f64| !checks::within(axis[0], axis[axis.len() - 1], x);
     let axis = if checks::is_axis(ks) { ts } else { ks };
-    let (check, cause) = if !checks::is_axis(axis) {
+    if !checks::is_axis(axis) {
         (18, checks::axis_cause(axis).to_string())
     } else if let Some(k) = strike.filter(|k| outside(ks, *k)) {
         (19, if k.is_nan() { "strike not-a-number" } else { "strike outside" }.to_string())
     } else if outside(ts, expiry) {
         (20, if expiry.is_nan() { "expiry not-a-number" } else { "expiry outside" }.to_string())
-    } else if rust.is_none() {
+    } else if gap {
         (20, "a cell not-a-number".to_string())
     } else {
         (0, String::new())
-    };
-    if number != check || (check != 0 && got.to_bits() != 0) {
+    }
+}
+
+/// What ours answered to a reading, beside the check that holds of it and the Rust's answer.
+fn read_verdict((check, cause): (u64, String), number: u64, got: &[f64], rust: Option<&[f64]>) -> Verdict {
+    let list = |xs: &[f64]| xs.iter().map(|x| show(*x)).collect::<Vec<_>>().join(", ");
+    if number != check || (check != 0 && !zeros(got)) {
         return Unlisted(format!("01 says {check}, ours {number} {got:?}, the Rust {rust:?}"));
     }
     match rust {
         None => Same(format!("refused by {number}")),
-        Some(v) if number == 0 && same_bits(v, got) => Same("values".to_string()),
-        Some(v) if number == 0 => Unlisted(format!("ours {}, the Rust {}", show(got), show(v))),
-        Some(v) => differs(check, cause, "answers", show(v)),
+        Some(v) if number == 0 && all_same(v, got) => Same("values".to_string()),
+        Some(v) if number == 0 => Unlisted(format!("ours {}, the Rust {}", list(got), list(v))),
+        Some(v) => differs(check, cause, "answers", list(v)),
     }
+}
+
+/// A reading of the two surfaces, which hold the same; without a strike, the middle strike's against `atm_vol`.
+fn reading(b: &Buffers, s: &VolSurface, strike: Option<f64>, expiry: f64) -> Verdict {
+    let (number, got) = ours::read(b, strike, expiry);
+    let rust = match strike {
+        Some(k) => s.interpolate(k, expiry),
+        None => s.atm_vol(expiry),
+    };
+    read_verdict(read_check(s, strike, expiry, rust.is_none()), number, &[got], rust.as_ref().map(std::slice::from_ref))
 }
 
 fn read_built(q: &Read<Quotes>) -> Verdict {
@@ -821,6 +877,36 @@ fn read_made(q: &Read<Made>) -> Verdict {
     let mut b = Buffers::new(64, 32, 2048, 2048);
     lend(&q.of, &mut b);
     reading(&b, &VolSurface::of(q.of.strikes.clone(), q.of.expiries.clone(), q.of.grid.clone()), q.strike, q.expiry)
+}
+
+/// S-2: "the strike nearest its spot by float difference, the lower one on a tie". Of several least, `min_by` gives the first.
+fn nearest(strikes: &[f64], spot: f64) -> Option<f64> {
+    strikes.iter().copied().min_by(|x, y| (x - spot).abs().total_cmp(&(y - spot).abs()))
+}
+
+/// A reading at the money: S-2's strike, and the Rust's `interpolate` there.
+fn money(q: &Money) -> Verdict {
+    let mut b = Buffers::new(64, 32, 2048, 2048);
+    lend(&q.of, &mut b);
+    b.lengths = q.claimed.unwrap_or(b.lengths);
+    // What is not in use is nearer to the spot than any strike.
+    b.strike_axis[q.of.strikes.len()..].fill(q.record.spot);
+    for (buffer, length) in [&mut b.strike_axis, &mut b.expiry_axis, &mut b.grid].into_iter().zip(q.lent) {
+        buffer.resize(length, q.record.spot);
+    }
+    let (number, got) = ours::at_the_money(&q.record, &b, q.expiry);
+    let s = VolSurface::of(q.of.strikes.clone(), q.of.expiries.clone(), q.of.grid.clone());
+    let rust = nearest(s.strikes(), q.record.spot).and_then(|k| Some([k, s.interpolate(k, q.expiry)?]));
+    let check = if let Some(cause) = checks::record_cause(q.record.spot, q.record.rate, q.record.totals) {
+        (2, cause)
+    } else if b.lengths[0] > 64 || b.lengths[1] > 32 {
+        (2, "more than 64 strikes or 32 expiries".to_string())
+    } else if q.lent[0] < 64 || q.lent[1] < 32 || q.lent[2] < 2048 {
+        (15, "a buffer too short".to_string())
+    } else {
+        read_check(&s, None, q.expiry, rust.is_none())
+    };
+    read_verdict(check, number, &got, rust.as_ref().map(|r| &r[..]))
 }
 
 fn fill(q: &Gaps) -> Verdict {
@@ -1059,6 +1145,8 @@ fn main() {
 
     surfaces(count, random(13), &mut kinds);
 
+    at_the_money(count, random(19), &mut kinds);
+
     let (mut r, mut k) = (random(15), Kind::default());
     let mut b = Buffers::new(64, 32, 2048, 2048);
     each_family(count.div_ceil(10), |family| {
@@ -1185,8 +1273,77 @@ fn surfaces(count: u64, mut r: Random, kinds: &mut Vec<(String, Kind)>) {
     kinds.push(("readings".to_string(), reads));
 }
 
+/// A surface to read at the money: the Rust's of a tray, or one made by hand, on any strikes or on strikes in pairs.
+fn money_surface(r: &mut Random, family: Family) -> Option<Made> {
+    match r.below(3) {
+        0 => {
+            let (s, _) = rust_surface(&questions::tray(r, family))?;
+            let of = Made { strikes: s.strikes().to_vec(), expiries: s.expiries().to_vec(), grid: s.grid().to_vec() };
+            Some(of).filter(|of| of.strikes.len() <= 64 && of.expiries.len() <= 32)
+        }
+        1 => Some(questions::made_in_pairs(r, family)),
+        _ => Some(questions::made(r, family)),
+    }
+}
+
+fn money_question(r: &mut Random, family: Family, of: &Made) -> Money {
+    let record = questions::record(r, family, &of.strikes);
+    let expiry = questions::place(r, &of.expiries);
+    let mut q = Money { of: of.clone(), record, expiry, lent: [64, 32, 2048], claimed: None };
+    let own = [of.strikes.len() as u64, of.expiries.len() as u64];
+    if family == Family::Damaged && r.once_in(5) {
+        match r.below(5) {
+            0 => q.lent[r.index(3)] = r.pick(&[0, 1, 31]),
+            1 => q.lent = r.pick(&[[63, 32, 2048], [64, 31, 2048], [64, 32, 2047]]),
+            2 => q.lent = [64 + r.index(3), 32 + r.index(3), 2048 + r.index(70)],
+            3 => q.claimed = Some([r.pick(&[65, 66, 1 << 32, u64::MAX]), own[1]]),
+            _ => q.claimed = Some([own[0], r.pick(&[33, 34, 1 << 32, u64::MAX])]),
+        }
+    }
+    q
+}
+
+/// Of an answered reading at the money: whether it was not at the middle strike, whether the spot lay outside the axis, whether another strike is as
+/// near by float difference, and whether that is so by rounding alone.
+fn money_traits(q: &Money) -> [bool; 4] {
+    let (ks, spot) = (&q.of.strikes, q.record.spot);
+    let k = nearest(ks, spot).unwrap();
+    let others: Vec<f64> = ks.iter().copied().filter(|x| *x != k && (x - spot).abs() == (k - spot).abs()).collect();
+    // Their exact sum is the float sum and what it rounds off (Knuth): is it twice the spot?
+    let exactly = |x: f64| {
+        let sum = k + x;
+        let part = sum - k;
+        sum == 2.0 * spot && (k - (sum - part)) + (x - part) == 0.0
+    };
+    [k != ks[ks.len() / 2], !checks::within(ks[0], ks[ks.len() - 1], spot), !others.is_empty(), others.iter().any(|x| !exactly(*x))]
+}
+
+/// Readings at the money.
+fn at_the_money(count: u64, mut r: Random, kinds: &mut Vec<(String, Kind)>) {
+    let mut k = Kind::default();
+    let mut seen = [0; 4];
+    while k.asked < count {
+        for family in FAMILIES {
+            let Some(of) = money_surface(&mut r, family) else { continue };
+            for _ in 0..10 {
+                let q = money_question(&mut r, family, &of);
+                let verdict = money(&q);
+                if matches!(&verdict, Same(how) if how == "values") {
+                    seen.iter_mut().zip(money_traits(&q)).for_each(|(n, holds)| *n += u64::from(holds));
+                }
+                k.ask(verdict, || q, money);
+            }
+        }
+    }
+    let [away, outside, tied, rounded] = seen;
+    let ties = format!("{tied} at a tie, {rounded} of them by rounding");
+    k.notes.push(format!("of the values, {away} not at the middle strike, {outside} with the spot outside the axis, {ties}"));
+    k.print("readings at the money");
+    kinds.push(("readings at the money".to_string(), k));
+}
+
 fn totals(kinds: &[(String, Kind)]) {
-    println!("\nreasons, all from document 01:");
+    println!("\nreasons, all from documents 01 and 02:");
     let mut reasons: BTreeMap<(u64, &str), u64> = BTreeMap::new();
     for (_, k) in kinds {
         for ((check, cause, _), (n, _)) in &k.differs {

@@ -66,17 +66,43 @@ returns-3 c =
       sym (p1 .before .is .ensures) ∙ p1 .if1 .left,
     )
 
-model-request-requires : tie.Need-model-request-requires
-model-request-requires c κs = tt
+is-requires-4 : tie.Need-is-requires-4
+is-requires-4 c κs = tt
+
+array-read-float-of-5 : tie.Need-array-read-float-of-5
+array-read-float-of-5 c = search needs
+
+float-of-requires-5 : tie.Need-float-of-requires-5
+float-of-requires-5 c κs = tt
 
 returns-4 : tie.Need-returns-4
 unfolding bookRequest
 returns-4 c =
-    let p3 = c .before in
+    let p4 = c .before in
+    let p3 = p4 .before .before .before in
+    let p2 = p3 .before .before .before in
+    let p1 = p2 .before .before .before in
+    simp (
+      c .float-of5 .ensures,
+      sym (p4 .before .is4 .ensures) ∙ p4 .if4 .taken,
+      sym (p3 .before .is3 .ensures) ∙ p3 .if3 .left,
+      sym (p2 .before .is2 .ensures) ∙ p2 .if2 .left,
+      sym (p1 .before .is .ensures) ∙ p1 .if1 .left,
+    )
+
+model-request-requires : tie.Need-model-request-requires
+model-request-requires c κs = tt
+
+returns-5 : tie.Need-returns-5
+unfolding bookRequest
+returns-5 c =
+    let p4 = c .before in
+    let p3 = p4 .before .before .before in
     let p2 = p3 .before .before .before in
     let p1 = p2 .before .before .before in
     simp (
       c .model-request .ensures,
+      sym (p4 .before .is4 .ensures) ∙ p4 .if4 .left,
       sym (p3 .before .is3 .ensures) ∙ p3 .if3 .left,
       sym (p2 .before .is2 .ensures) ∙ p2 .if2 .left,
       sym (p1 .before .is .ensures) ∙ p1 .if1 .left,
@@ -100,5 +126,9 @@ book-request-spec =
     array-read-float-of-4
     float-of-requires-4
     returns-3
+    is-requires-4
+    array-read-float-of-5
+    float-of-requires-5
+    returns-4
     model-request-requires
-    returns-4)
+    returns-5)

@@ -46,8 +46,8 @@ interpolate-requires c κs = search needs
 say-reading-requires : tie.Need-say-reading-requires Inv-loop μ-loop
 say-reading-requires c κs = search needs
 
-atm-vol-requires : tie.Need-atm-vol-requires Inv-loop μ-loop
-atm-vol-requires c κs = search needs
+middle-strike-requires : tie.Need-middle-strike-requires Inv-loop μ-loop
+middle-strike-requires c κs = search needs
 
 say-reading-requires-2 : tie.Need-say-reading-requires-2 Inv-loop μ-loop
 say-reading-requires-2 c κs = search needs
@@ -82,7 +82,7 @@ reads-spec =
     word-requires-3
     interpolate-requires
     say-reading-requires
-    atm-vol-requires
+    middle-strike-requires
     say-reading-requires-2
     add-i
     loop-less
