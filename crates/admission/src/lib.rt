@@ -1,4 +1,6 @@
 // What turns a build down: 1, 2 and 15 of what is lent, 16 and 17 of the axes' lengths.
+#![tactic(auto)]
+
 ghost use Rattle.std.specs.Prelude.{◌≡◌, ◌&&◌, ◌||◌, ◌≤◌, ltb, length};
 ghost use Rattle.limits.specs.Ranges.{is_strike, is_expiry, is_volatility};
 ghost use Rattle.limits.specs.Checks.{none};

@@ -1,4 +1,6 @@
 // Whole trays: a fresh book hears a list of offers from lent slices, and a surface is built of what it kept.
+#![tactic(auto)]
+
 ghost use Rattle.std.specs.Prelude.{◌≡◌, ◌<◌, ◌≤◌, length};
 ghost use Rattle.ledger.specs.Book.{columns_of};
 ghost use Rattle.ledger.specs.Build.{buffers_of};

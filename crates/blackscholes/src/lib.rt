@@ -1,14 +1,16 @@
 // The model on paper: the price and the seven greeks of Black and Scholes, implied volatility, what is refused (specs/), and what document 01 says of the
 // answers. Crate `greeks` has the functions.
+#![tactic(auto)]
+
 use brent::Solution;
 
-#[derive(Drop)]
+#[derive(Clone, Copy)]
 pub enum OptionType {
     Call,
     Put,
 }
 
-#[derive(Drop)]
+#[derive(Clone, Copy)]
 pub struct OptionParams {
     pub spot: f64,
     pub strike: f64,
@@ -18,7 +20,7 @@ pub struct OptionParams {
     pub option_type: OptionType,
 }
 
-#[derive(Drop)]
+#[derive(Clone, Copy)]
 pub struct Greeks {
     pub delta: f64,
     pub gamma: f64,
@@ -29,20 +31,20 @@ pub struct Greeks {
     pub volga: f64,
 }
 
-#[derive(Drop)]
+#[derive(Clone, Copy)]
 pub enum Priced {
     Price { value: f64 },
     Refused { number: u64 },
 }
 
-#[derive(Drop)]
+#[derive(Clone, Copy)]
 pub enum Sensitivities {
     Found { greeks: Greeks },
     Refused { number: u64 },
 }
 
 // A solved volatility with its evidence.
-#[derive(Drop)]
+#[derive(Clone, Copy)]
 pub enum Implied {
     Found { solution: Solution },
     Refused { number: u64, evaluations: u64 },

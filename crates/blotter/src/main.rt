@@ -4,12 +4,18 @@
 // come the values of its axes and, row by row, its cells. Any other line is answered by a question mark.
 // Proved is that it returns and does nothing undefined. No theorem is about the whole input: that each line is answered, once and in order, is held by the
 // program's run, and so is what it reads and writes.
+#![tactic(auto)]
+
 ghost use Rattle.std.specs.Prelude.{◌+◌, ◌≤◌};
 
 use blackscholes::{OptionParams, OptionType};
 use ledger::{Book, Opened};
-use libc::{STDERR_FILENO, STDIN_FILENO, STDOUT_FILENO};
+use std::io::{Read, Stdin};
 use wording::Request;
+
+const STDOUT_FILENO: i32 = 1;
+
+const STDERR_FILENO: i32 = 2;
 
 // ---- a line written
 
@@ -128,7 +134,7 @@ fn line_request(line: &[u8; 109], seen: usize) -> Request {
 // ---- a line answered
 
 // The book, the lengths of the axes of the surface built last, and whether every write went well.
-#[derive(Drop)]
+#[derive(Clone, Copy)]
 struct State {
     book: Book,
     strikes: usize,
@@ -402,8 +408,17 @@ fn finish(seen: usize, input: &mut [u8; 65536]) -> isize {
     1
 }
 
+// How many bytes a read gave, or less than 0 where it failed.
+fn read_some(stdin: Stdin, input: &mut [u8; 65536]) -> isize {
+    let mut source = stdin;
+    match source.read(&mut input[..]) {
+        Ok(n) => n as isize,
+        Err(_) => -1,
+    }
+}
+
 // Begins a line behind one that ended, else reads.
-fn fetch(r: Reader, input: &mut [u8; 65536]) -> Reader {
+fn fetch(r: Reader, stdin: Stdin, input: &mut [u8; 65536]) -> Reader {
     let mut t = r;
     if t.ended {
         t.seen = 0;
@@ -411,7 +426,7 @@ fn fetch(r: Reader, input: &mut [u8; 65536]) -> Reader {
         return t;
     }
     t.at = 0;
-    t.got = libc::read(STDIN_FILENO, input);
+    t.got = read_some(stdin, input);
     if t.got < 0 {
         io::write_all(STDERR_FILENO, b"blotter: cannot read\n");
         return t;
@@ -455,7 +470,7 @@ fn take(r: Reader, input: &[u8; 65536], line: &mut [u8; 109]) -> Reader {
 }
 
 // Nothing says that an input ends, so the loop counts its turns down, from a number that no run uses up.
-fn main() {
+fn main(rt: HostRuntime) {
     let mut input = [0u8; 65536];
     let mut line = [0u8; 109];
     let mut strikes = [0.0f64; 1024];
@@ -470,7 +485,7 @@ fn main() {
     let mut turns = u64::MAX;
     while turns > 0 && (r.got >= 0) & s.ok {
         turns -= 1;
-        r = fetch(r, &mut input);
+        r = fetch(r, rt.stdin(), &mut input);
         r = take(r, &input, &mut line);
         if r.ended {
             let q = line_request(&line, r.seen);

@@ -1,4 +1,6 @@
 // The quote book: a record by value and three lent columns. Offers are heard one at a time; a surface is built of what was kept.
+#![tactic(auto)]
+
 ghost use Rattle.std.specs.Prelude.{◌≡◌};
 ghost use Rattle.ledger.specs.Model.{bsm};
 ghost use Rattle.ledger.specs.Book.{columns_of, fresh, open_refusal, opened, outcome_of_opening, filed};

@@ -1,8 +1,9 @@
 // The solver on paper: its points, states and answers, Brent's method as the Rust's `implied_volatility` writes it, fed one price at a time (specs/), and
 // what document 01 says of it, proved for every list of prices. Crate `solver` has the functions.
+#![tactic(auto)]
 
 // A round's numbers: the last point a, the best b and the opposing c, their errors, and the last two steps.
-#[derive(Drop)]
+#[derive(Clone, Copy)]
 pub struct Points {
     pub a: f64,
     pub b: f64,
@@ -15,7 +16,7 @@ pub struct Points {
 }
 
 // A solver between two prices. An ended one's numbers are all 0.
-#[derive(Drop)]
+#[derive(Clone, Copy)]
 pub struct Solver {
     pub market: f64,
     pub points: Points,
@@ -24,7 +25,7 @@ pub struct Solver {
 }
 
 // What a solver found, with its evidence: the error of the volatility, and the opposing point c with its error.
-#[derive(Drop)]
+#[derive(Clone, Copy)]
 pub struct Solution {
     pub volatility: f64,
     pub error: f64,
@@ -52,7 +53,7 @@ pub enum Answer {
 }
 
 // The fraction p / q by which an interpolation moves b.
-#[derive(Drop)]
+#[derive(Clone, Copy)]
 pub struct Ratio {
     pub p: f64,
     pub q: f64,

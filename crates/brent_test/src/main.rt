@@ -1,6 +1,8 @@
 // Feeds the solver the recorded lists of the file `stdin` and writes each answer: its number, the bits of its floats and its evaluations.
 // A line is a letter and 16 hexadecimal digits: S starts a solver for a market price, P feeds it a price; M, A, B, C, R and E make a state by hand,
 // setting its market price, a point, its rounds or evaluations. vectors.py says what the lines are and makes the answers to expect.
+#![tactic(auto)]
+
 use brent::{Answer, Points, Solver};
 
 // A digit's value; any other character counts as 0.

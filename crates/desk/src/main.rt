@@ -3,14 +3,20 @@
 // the next turn gets what this one left, and the end of the input is the last.
 // No contract can say which bytes a read gives, nor what becomes of a write. So the program's run holds these: that the count is the read's own, that
 // each text is written, once and to standard output, that a failed write ends the program, and that the loop is not left early.
+#![tactic(auto)]
+
 ghost use Rattle.std.specs.Prelude.{◌*◌, ◌≤◌, ◌≡◌, [], ◌∷◌, length, take};
 ghost use Rattle.ledger.specs.Book.{columns_of};
 ghost use Rattle.protocol.specs.Calls.{fresh};
 ghost use Rattle.protocol.specs.Turns.{count_of, HadRoom, holds};
 ghost use Rattle.desk.specs.Served.{parts_of, Within, Heard, Served};
 
-use libc::{STDERR_FILENO, STDIN_FILENO, STDOUT_FILENO};
 use protocol::{State, Text};
+use std::io::{Read, Stdin};
+
+const STDOUT_FILENO: i32 = 1;
+
+const STDERR_FILENO: i32 = 2;
 
 // What a read gave: so many bytes in the front of the buffer, none of them at the end of the input.
 #[derive(Drop)]
@@ -32,15 +38,13 @@ fn hold(state: State, more: bool) -> Going
     Going { state, more }
 }
 
-fn read_part(input: &mut [u8]) -> Got
+fn read_part(stdin: Stdin, input: &mut [u8]) -> Got
     ensures { Within result input.new }
 {
-    let got = libc::read(STDIN_FILENO, input);
-    if got < 0 {
-        return Got::Failed;
-    }
-    Got::Part {
-        count: io::count(got, &input[..]),
+    let mut source = stdin;
+    match source.read(input) {
+        Ok(count) => Got::Part { count },
+        Err(_) => Got::Failed,
     }
 }
 
@@ -118,6 +122,7 @@ fn answer(
 
 // Nothing says that an input ends, so the loop counts its turns down, from a number that no run uses up.
 fn serve(
+    stdin: Stdin,
     input: &mut [u8],
     strikes: &mut [f64],
     expiries: &mut [f64],
@@ -133,7 +138,7 @@ fn serve(
     let mut t = hold(lines::start(), true);
     let mut turns = u64::MAX;
     while turns > 0 && t.more {
-        let got = read_part(input);
+        let got = read_part(stdin, input);
         t = answer(
             got,
             &input[..],
@@ -148,13 +153,14 @@ fn serve(
     t
 }
 
-fn main() {
+fn main(rt: HostRuntime) {
     let mut input = [0u8; 4096];
     let mut strikes = [0.0f64; 1024];
     let mut expiries = [0.0f64; 1024];
     let mut volatilities = [0.0f64; 1024];
     let mut out = [0u8; 77824];
     serve(
+        rt.stdin(),
         &mut input,
         &mut strikes,
         &mut expiries,

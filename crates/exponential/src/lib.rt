@@ -1,4 +1,6 @@
 // exp and ln on f64, each equal to its definition of crate `elementary` for every input.
+#![tactic(auto)]
+
 ghost use Rattle.std.specs.Prelude.{◌≡◌, ◌-◌, ◌<◌, T, length};
 ghost use Rattle.std.specs.Int.Signed.{mag};
 ghost use Rattle.elementary.specs.Tables.{entry_of, polynomial, factorial, odd_number, last_e, last_l, Ruled};

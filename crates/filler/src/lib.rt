@@ -1,4 +1,6 @@
 // The gap filler of a lent grid of up to 32 rows (expiries) and 64 columns (strikes). Of src/options/surface.rs.
+#![tactic(auto)]
+
 ghost use Rattle.std.specs.Prelude.{◌≡◌, ◌≤◌, ◌<◌, length};
 ghost use Rattle.std.specs.Float.{nan};
 ghost use Rattle.gaps.specs.Gaps.{filled, forward, backward, swept, rows_swept, column, put_column, columns_swept, FillsGaps};

@@ -1,4 +1,6 @@
 // The float functions that the crates above call, each equal to its definition in specs/ for every input.
+#![tactic(auto)]
+
 ghost use Rattle.std.specs.Prelude.{◌≡◌, T};
 ghost use Rattle.std.specs.Float.Ieee.Positive.{positive};
 ghost use Rattle.floats.specs.Values.{magnitude, minimum, negative, copysign, finite};

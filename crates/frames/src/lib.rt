@@ -1,11 +1,13 @@
 // Hexadecimal lines: a line's bytes to a frame, an answer to its line.
+#![tactic(auto)]
+
 ghost use Rattle.std.specs.Prelude.{◌≡◌, true, ◌&&◌, ◌+◌, ◌*◌, ◌≤◌, ◌<◌, leb, length, take, drop};
 ghost use Rattle.std.specs.Float.{binary64};
 ghost use Rattle.std.specs.Float.Ieee.{of_bits, to_bits};
-ghost use Rattle.hex.specs.Hex.{is_digit, digit_value, all_digits, value, float, digit, answer_line};
-ghost use Rattle.hex.specs.Frames.{frame_of};
+ghost use Rattle.hexlines.specs.Hex.{is_digit, digit_value, all_digits, value, float, digit, answer_line};
+ghost use Rattle.hexlines.specs.Frames.{frame_of};
 
-use hex::Frame;
+use hexlines::Frame;
 
 // In lo to hi, ends included.
 fn between(lo: u8, hi: u8, b: u8) -> bool

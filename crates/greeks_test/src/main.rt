@@ -1,11 +1,14 @@
 // Runs bsm_price, bsm_greeks and implied_volatility on the records of standard input, and writes for each the operation, the inputs' bits, what was
 // answered (number, evaluations, the value's bits) and ok or MISMATCH; after each kind of record, its totals. vectors.py makes the records and says
 // what a line holds and where the expected values are from.
+#![tactic(auto)]
+
 ghost use Rattle.std.specs.Prelude.{◌+◌, ◌≤◌, ◌<◌};
 
 use blackscholes::{Greeks, Implied, OptionParams, OptionType, Priced, Sensitivities};
 use brent::Solution;
-use libc::STDOUT_FILENO;
+
+const STDOUT_FILENO: i32 = 1;
 
 // What a call answered. A refusal's value is 0.0.
 #[derive(Drop)]

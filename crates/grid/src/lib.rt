@@ -1,5 +1,7 @@
 // A lent grid of up to 32 rows (expiries) and 64 columns (strikes), and its readings, on paper: where a cell stands, the searches and the readings of
 // src/options/surface.rs, the strike nearest a spot (specs/). Crate `readings` has the calls.
+#![tactic(auto)]
+
 ghost use Rattle.std.specs.Prelude.{◌≡◌};
 ghost use Rattle.std.specs.Float.{nan};
 
@@ -11,7 +13,7 @@ pub fn nan() -> f64
 }
 
 // What `bracket` returns: two axis values by index, and how far between them.
-#[derive(Drop)]
+#[derive(Clone, Copy)]
 pub struct Span {
     pub lower: usize,
     pub upper: usize,
@@ -19,7 +21,7 @@ pub struct Span {
 }
 
 // The cells that a read uses.
-#[derive(Drop)]
+#[derive(Clone, Copy)]
 pub struct Corners {
     pub v00: f64,
     pub v10: f64,
@@ -27,7 +29,7 @@ pub struct Corners {
     pub v11: f64,
 }
 
-#[derive(Drop)]
+#[derive(Clone, Copy)]
 pub enum Reading {
     Value { volatility: f64 },
     Refused { number: u64 },

@@ -1,4 +1,6 @@
 // One frame heard by the quote book: what it asks for, and what the book answers.
+#![tactic(auto)]
+
 ghost use Rattle.std.specs.Prelude.{◌≡◌};
 ghost use Rattle.brent.specs.declared.Solution.{Solution};
 ghost use Rattle.blackscholes.specs.Implied.{outcome_of_implied};
@@ -11,7 +13,7 @@ ghost use Rattle.protocol.specs.Hear.{ledger, said, opens, reads, asked_by, answ
 use blackscholes::{Implied, OptionType};
 use chart::Built;
 use grid::Reading;
-use hex::Frame;
+use hexlines::Frame;
 use ledger::{Book, Heard, Offer, Opened, Terms};
 use protocol::{Asked, Said};
 

@@ -1,5 +1,7 @@
 // The library for hosts: the calls of the crates below under C names, on numbers and lent memory. A call returns 0, or document 01's number.
 // A slice is passed as a pointer and then its length; a `&mut` to a number or to an array, as a pointer.
+#![tactic(auto)]
+
 ghost use Rattle.std.specs.Prelude.{◌≡◌};
 ghost use Rattle.floats.specs.Operators.{decimal};
 ghost use Rattle.root.specs.Root.{SquareRoot};

@@ -7,11 +7,11 @@ use lib.ListN.{length, drop, take-append-drop}
 use Rattle.ledger.specs.Book.{Columns}
 use Rattle.ledger.specs.Claim.{Ledger}
 use Rattle.ledger.specs.declared.Book.{Book}
-use Rattle.hex.specs.Lines.{unended, held, no_line, feeds}
-use Rattle.hex.specs.Session.{Session, feed, finish}
-use Rattle.hex.specs.Moves.{Place, session_of}
-use Rattle.hex.specs.declared.Line.{Line}
-use Rattle.hex.proofs.Moves.{text_size}
+use Rattle.hexlines.specs.Lines.{unended, held, no_line, feeds}
+use Rattle.hexlines.specs.Session.{Session, feed, finish}
+use Rattle.hexlines.specs.Moves.{Place, session_of}
+use Rattle.hexlines.specs.declared.Line.{Line}
+use Rattle.hexlines.proofs.Moves.{text_size}
 use Rattle.protocol.specs.Hear.{ledger, hears}
 use Rattle.protocol.specs.Calls.{session, line_after, state, left, wrote, fed, finished}
 use Rattle.lines.specs.Moves.{place}

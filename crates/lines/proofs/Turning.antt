@@ -7,11 +7,11 @@ use lib.ListN.{length}
 use Rattle.ledger.specs.Book.{Columns}
 use Rattle.ledger.specs.Claim.{Ledger}
 use Rattle.ledger.proofs.Lengths.{SameLengths}
-use Rattle.hex.specs.Lines.{taken, feeds}
-use Rattle.hex.specs.Session.{feed}
-use Rattle.hex.specs.Moves.{Place, session_of}
-use Rattle.hex.specs.declared.Taken.{Taken}
-use Rattle.hex.proofs.Moves.{with_line}
+use Rattle.hexlines.specs.Lines.{taken, feeds}
+use Rattle.hexlines.specs.Session.{feed}
+use Rattle.hexlines.specs.Moves.{Place, session_of}
+use Rattle.hexlines.specs.declared.Taken.{Taken}
+use Rattle.hexlines.proofs.Moves.{with_line}
 use Rattle.protocol.specs.Hear.{hears}
 use Rattle.protocol.specs.Calls.{line_after}
 use Rattle.protocol.specs.Moves.{LineEnded}

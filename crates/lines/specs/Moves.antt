@@ -2,7 +2,7 @@
 use Rattle.std.specs.Prelude.{ℕ, List}
 use Rattle.ledger.specs.Book.{Columns}
 use Rattle.ledger.specs.Claim.{Ledger}
-use Rattle.hex.specs.Moves.{Place}
+use Rattle.hexlines.specs.Moves.{Place}
 use Rattle.protocol.specs.Hear.{ledger}
 use Rattle.lines.specs.declared.Progress.{Progress}
 

@@ -1,4 +1,6 @@
 // The hexadecimal program: lines of frames are answered from the quote book, a line for each.
+#![tactic(auto)]
+
 ghost use Rattle.std.specs.Prelude.{◌≡◌, ◌+◌, ◌≤◌, length};
 ghost use Rattle.std.proofs.Math.Seq.{paste};
 ghost use Rattle.ledger.specs.Book.{columns_of};
@@ -6,7 +8,7 @@ ghost use Rattle.protocol.specs.Calls.{fresh, state, left, fed, finished, turn_l
 ghost use Rattle.protocol.specs.Moves.{LineEnded};
 ghost use Rattle.lines.specs.Moves.{place};
 
-use hex::Line;
+use hexlines::Line;
 use ledger::Book;
 use protocol::{Fed, State, Step, Text};
 

@@ -1,10 +1,15 @@
 // Runs long trays of vectors.py. Each line of the input is five digits of a count, a mark, and a piece of a tray, which is fed so many times:
 // mark ' ' feeds the piece and a line feed, mark '+' the piece alone; mark '.' ends the tray, and starts the program anew.
 // An answer is written once for all its repetitions in a row, behind how many there are; the end of a tray is written too.
+#![tactic(auto)]
+
 ghost use Rattle.std.specs.Prelude.{◌≤◌, length};
 
-use libc::{STDIN_FILENO, STDOUT_FILENO};
 use protocol::{Fed, State, Text};
+
+const STDIN_FILENO: i32 = 0;
+
+const STDOUT_FILENO: i32 = 1;
 
 // The program's state, the last answer, and how many times it came in a row.
 #[derive(Drop)]

@@ -1,4 +1,6 @@
 // The reading at the money: at the strike nearest the spot of the book's record.
+#![tactic(auto)]
+
 ghost use Rattle.std.specs.Prelude.{◌≡◌};
 ghost use Rattle.ledger.specs.Money.{at_the_money, money_outcome};
 

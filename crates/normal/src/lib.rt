@@ -1,4 +1,6 @@
 // erfc, pdf and cdf on f64, each equal to its definition of crate `gauss` for every input.
+#![tactic(auto)]
+
 ghost use Rattle.std.specs.Prelude.{◌≡◌, true, false};
 ghost use Rattle.floats.specs.Operators.{decimal, ◌≺◌};
 ghost use Rattle.gauss.specs.Erfc.{series, terms, fraction, levels, erfc, erfc_from_zero};

@@ -1,8 +1,10 @@
 // Runs sqrt, exp, ln, erfc, pdf, cdf and cdf_pair on the vectors of standard input, and writes for each the function, the input's bits, the answer's bits, and
 // ok or MISMATCH. The last line has the totals. vectors.py makes the vectors and says what a line holds and where the expected values are from.
+#![tactic(auto)]
+
 ghost use Rattle.std.specs.Prelude.{◌+◌, ◌≤◌, ◌<◌};
 
-use libc::STDOUT_FILENO;
+const STDOUT_FILENO: i32 = 1;
 
 // A hexadecimal digit in upper case; any other character counts as 0.
 fn digit(b: u8) -> u64 {

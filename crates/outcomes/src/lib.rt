@@ -1,4 +1,6 @@
 // The number and the values of each answer, 0 and the refusal's zeros included.
+#![tactic(auto)]
+
 ghost use Rattle.std.specs.Prelude.{◌≡◌};
 ghost use Rattle.limits.specs.Outcome.{number_of, values_of};
 ghost use Rattle.blackscholes.specs.Checks.{outcome_of_price, outcome_of_greeks, no_greeks};

@@ -18,7 +18,7 @@ use Rattle.ledger.specs.Book.{Columns}
 use Rattle.ledger.specs.Build.{Buffers, build_refusal, build_outcome, buffers_after}
 use Rattle.ledger.specs.Claim.{Ledger}
 use Rattle.ledger.specs.declared.Book.{Book}
-use Rattle.hex.specs.declared.Frame.TheVariants.{Read}
+use Rattle.hexlines.specs.declared.Frame.TheVariants.{Read}
 use Rattle.protocol.specs.declared.Asked.{Asked}
 use Rattle.protocol.specs.declared.Asked.TheVariants as Asked
 use Rattle.protocol.specs.Hear.{said, blank, read_of, reads, asked_by, answers, hears}

@@ -14,9 +14,9 @@ use Rattle.ledger.specs.Book.{zero_book, fresh, open_refusal, opened}
 use Rattle.ledger.specs.Build.{build_outcome, buffers_after}
 use Rattle.ledger.specs.Fold.{after}
 use Rattle.ledger.specs.Claim.{Ledger, hear, reply}
-use Rattle.hex.specs.Session.{Told, book_after}
-use Rattle.hex.specs.declared.Frame.TheVariants.{Open, Read}
-use Rattle.hex.proofs.Claims.{streamed}
+use Rattle.hexlines.specs.Session.{Told, book_after}
+use Rattle.hexlines.specs.declared.Frame.TheVariants.{Open, Read}
+use Rattle.hexlines.proofs.Claims.{streamed}
 use Rattle.protocol.specs.Hear.{ledger, said, opens, offers, blank, read_of, reads, asked_by, answers, hears}
 use Rattle.protocol.specs.Claims.{line_of_terms, line_of_offer, Program}
 use Rattle.protocol.proofs.Numbers.{tabled}

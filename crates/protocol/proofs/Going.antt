@@ -10,14 +10,14 @@ use Rattle.floats.proofs.Tests.{split}
 use Rattle.ledger.specs.Book.{Columns}
 use Rattle.ledger.specs.Claim.{Ledger}
 use Rattle.ledger.proofs.Lengths.{SameLengths, at_first, and_then}
-use Rattle.hex.specs.Hex.{answer_line}
-use Rattle.hex.specs.Frames.{frame_of}
-use Rattle.hex.specs.Lines.{held, no_line, pushed, cap, through, line_in, taken, feed_in, feeds}
-use Rattle.hex.specs.Session.{Session, feed, finish}
-use Rattle.hex.specs.Moves.{Place, session_of, Moved}
-use Rattle.hex.specs.declared.Frame.{Frame}
-use Rattle.hex.specs.declared.Line.{Line}
-use Rattle.hex.proofs.Moves.{moved_ended, moved_none, moved_last, Going, going_start, with_line, going_line, going_rest}
+use Rattle.hexlines.specs.Hex.{answer_line}
+use Rattle.hexlines.specs.Frames.{frame_of}
+use Rattle.hexlines.specs.Lines.{held, no_line, pushed, cap, through, line_in, taken, feed_in, feeds}
+use Rattle.hexlines.specs.Session.{Session, feed, finish}
+use Rattle.hexlines.specs.Moves.{Place, session_of, Moved}
+use Rattle.hexlines.specs.declared.Frame.{Frame}
+use Rattle.hexlines.specs.declared.Line.{Line}
+use Rattle.hexlines.proofs.Moves.{moved_ended, moved_none, moved_last, Going, going_start, with_line, going_line, going_rest}
 use Rattle.protocol.specs.Hear.{ledger, asked_by, answers, hears, heard_of}
 use Rattle.protocol.specs.Calls.{line_step, line_after}
 use Rattle.protocol.specs.Moves.{LineEnded}

@@ -9,9 +9,9 @@ use lib.Dec.{eqb, ltb}
 use lib.ListN.{length}
 use Rattle.floats.proofs.Tests.{split}
 use Rattle.ledger.specs.Claim.{Ledger}
-use Rattle.hex.specs.Lines.{feed_in, feeds}
-use Rattle.hex.specs.Session.{Session, step, feed}
-use Rattle.hex.proofs.Moves.{text_ended}
+use Rattle.hexlines.specs.Lines.{feed_in, feeds}
+use Rattle.hexlines.specs.Session.{Session, step, feed}
+use Rattle.hexlines.proofs.Moves.{text_ended}
 use Rattle.protocol.specs.Hear.{hears}
 
 abbrev at : Ledger → List ℕ → List ℕ → Session Ledger

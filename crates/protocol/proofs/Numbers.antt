@@ -26,7 +26,7 @@ use Rattle.ledger.specs.declared.Terms.TheVariants.{Volatility, Price}
 use Rattle.ledger.specs.Build.{Buffers, build_refusal, build_outcome, buffers_after}
 use Rattle.ledger.specs.Claim.{Ledger, hear, reply}
 use Rattle.ledger.specs.declared.Book.{Book}
-use Rattle.hex.specs.declared.Frame.{Frame}
+use Rattle.hexlines.specs.declared.Frame.{Frame}
 use Rattle.protocol.specs.declared.Asked.{Asked}
 use Rattle.protocol.specs.declared.Asked.TheVariants as Asked
 use Rattle.protocol.specs.Claims.{Tabled}

@@ -10,12 +10,12 @@ use lib.Seq.{take_at}
 use Rattle.floats.proofs.Tests.{by}
 use Rattle.ledger.specs.Book.{Columns, zero_book}
 use Rattle.ledger.specs.Claim.{Ledger}
-use Rattle.hex.specs.Lines.{cap, unended, held, no_line, pushed, feeds}
-use Rattle.hex.specs.Session.{Session, step, feed, finish, ended, run, output, joined}
-use Rattle.hex.specs.declared.Line.{Line}
-use Rattle.hex.proofs.Parts.{held_pushed}
-use Rattle.hex.proofs.Taking.{pushed_length, few_feeds}
-use Rattle.hex.proofs.Streams.{any_chunks}
+use Rattle.hexlines.specs.Lines.{cap, unended, held, no_line, pushed, feeds}
+use Rattle.hexlines.specs.Session.{Session, step, feed, finish, ended, run, output, joined}
+use Rattle.hexlines.specs.declared.Line.{Line}
+use Rattle.hexlines.proofs.Parts.{held_pushed}
+use Rattle.hexlines.proofs.Taking.{pushed_length, few_feeds}
+use Rattle.hexlines.proofs.Streams.{any_chunks}
 use Rattle.protocol.specs.Hear.{ledger, hears}
 use Rattle.protocol.specs.Calls.{fresh, session, line_step, line_after, Left, left, wrote, if_room, fed, finished, turned}
 use Rattle.protocol.specs.Turns.{count_of, HadRoom, text_of, Held, holds, keeps, held_after, written}

@@ -5,9 +5,9 @@ use Rattle.floats.specs.Operators.{if◌then◌else◌}
 use Rattle.ledger.specs.Book.{Columns, zero_book}
 use Rattle.ledger.specs.Claim.{Ledger}
 use Rattle.ledger.specs.declared.Book.{Book}
-use Rattle.hex.specs.Lines.{unended, held, no_line, pushed, feeds}
-use Rattle.hex.specs.Session.{Session, feed, finish}
-use Rattle.hex.specs.declared.Line.{Line}
+use Rattle.hexlines.specs.Lines.{unended, held, no_line, pushed, feeds}
+use Rattle.hexlines.specs.Session.{Session, feed, finish}
+use Rattle.hexlines.specs.declared.Line.{Line}
 use Rattle.protocol.specs.Hear.{ledger, hears}
 use Rattle.protocol.specs.declared.State.{State}
 use Rattle.protocol.specs.declared.Fed.{Fed}

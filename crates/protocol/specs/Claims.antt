@@ -10,10 +10,10 @@ use Rattle.ledger.specs.Book.{Columns, zero_book, fresh, open_refusal}
 use Rattle.ledger.specs.Fold.{after}
 use Rattle.ledger.specs.Claim.{Ledger, hear}
 use Rattle.limits.specs.Checks.{none}
-use Rattle.hex.specs.Session.{book_after, output, joined}
-use Rattle.hex.specs.Claims.{Streamed}
-use Rattle.hex.specs.declared.Frame.{Frame}
-use Rattle.hex.specs.declared.Frame.TheVariants.{Open, Call, Put, Vol, Read, Bad}
+use Rattle.hexlines.specs.Session.{book_after, output, joined}
+use Rattle.hexlines.specs.Claims.{Streamed}
+use Rattle.hexlines.specs.declared.Frame.{Frame}
+use Rattle.hexlines.specs.declared.Frame.TheVariants.{Open, Call, Put, Vol, Read, Bad}
 use Rattle.protocol.specs.Hear.{ledger, hears}
 use Rattle.protocol.specs.Calls.{fresh as noState, turned}
 use Rattle.protocol.specs.Turns.{count_of, HadRoom, Held, holds, held_after, written}

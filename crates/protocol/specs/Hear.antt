@@ -13,9 +13,9 @@ use Rattle.ledger.specs.Build.{Buffers, buffers_of, build_outcome, buffers_after
 use Rattle.ledger.specs.Claim.{Ledger, hear, reply}
 use Rattle.ledger.specs.declared.Book.{Book}
 use Rattle.ledger.specs.declared.Offer.{Offer}
-use Rattle.hex.specs.Session.{Told}
-use Rattle.hex.specs.declared.Frame.{Frame}
-use Rattle.hex.specs.declared.Frame.TheVariants.{Open, Call, Put, Vol, Read, Bad}
+use Rattle.hexlines.specs.Session.{Told}
+use Rattle.hexlines.specs.declared.Frame.{Frame}
+use Rattle.hexlines.specs.declared.Frame.TheVariants.{Open, Call, Put, Vol, Read, Bad}
 use Rattle.protocol.specs.declared.Asked.{Asked}
 use Rattle.protocol.specs.declared.Asked.TheVariants as Asked
 use Rattle.protocol.specs.declared.Said.{Said}

@@ -1,6 +1,8 @@
 // The hexadecimal program on paper: what each frame asks and is answered, what each call is to leave (specs/), and what the program writes, whatever
 // its reads. Crate `hearing` has the calls of one frame, `lines` those of a stream of lines.
-use hex::Line;
+#![tactic(auto)]
+
+use hexlines::Line;
 use ledger::{Book, Offer};
 
 // What a frame leads to: the record, the number of its answer (0 for done) and its value.
@@ -21,7 +23,7 @@ pub enum Asked {
 }
 
 // What the program holds between two chunks of its input: the record, and the part of a line that came so far.
-#[derive(Drop)]
+#[derive(Clone, Copy)]
 pub struct State {
     pub book: Book,
     pub line: Line,

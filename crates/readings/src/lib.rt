@@ -1,4 +1,6 @@
 // The readings of a lent grid, of src/options/surface.rs; and the strike nearest a spot, of document 02's S-2.
+#![tactic(auto)]
+
 ghost use Rattle.std.specs.Prelude.{◌≡◌, true, false, ◌&&◌, ◌≤◌, ◌<◌, length, take};
 ghost use Rattle.floats.specs.Operators.{◌≺◌};
 ghost use Rattle.floats.specs.Values.{finite};

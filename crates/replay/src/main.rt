@@ -1,6 +1,8 @@
 // Replays a sample of the oracle's answers: each line of standard input is a kind, inputs and the answer that the Rust gave, in hexadecimal bits; the
 // program computes the answer anew and compares, and writes each line that differs and the totals by kind. oracle/src/bin/sample.rs writes the sample and
 // says what a line holds.
+#![tactic(auto)]
+
 ghost use Rattle.std.specs.Prelude.{◌+◌, ◌*◌, ◌<◌, ◌≤◌};
 
 use blackscholes::{Greeks, Implied, OptionParams, OptionType, Priced, Sensitivities};
@@ -8,7 +10,8 @@ use brent::Solution;
 use chart::Built;
 use gaps::Filling;
 use grid::Reading;
-use libc::STDOUT_FILENO;
+
+const STDOUT_FILENO: i32 = 1;
 
 // ---- a line
 
@@ -257,7 +260,7 @@ fn judge_option(kind: usize, line: &[u8; 240]) -> bool {
 // ---- a surface
 
 // How many quotes wait for a build, and the lengths of the axes of the last one.
-#[derive(Drop)]
+#[derive(Clone, Copy)]
 struct State {
     quotes: usize,
     strikes: usize,

@@ -1,4 +1,6 @@
 // What a line asks, by its name and words.
+#![tactic(auto)]
+
 ghost use Rattle.std.specs.Prelude.{◌≡◌};
 ghost use Rattle.wording.specs.Requests.{called, offered, option, request_of, book_request, model_request};
 

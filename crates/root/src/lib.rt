@@ -1,5 +1,7 @@
 // The square root of an f64, correctly rounded, for every input, in the order in which IEEE 754 tells it: exceptional operands, the exact root, the
 // rounding. The numbers in brackets are clauses of its edition of 2019.
+#![tactic(auto)]
+
 ghost use Rattle.std.specs.Prelude.{◌≡◌, ◌+◌, ◌*◌, ◌/◌, ◌%◌, ◌^◌, ◌≤◌, ◌<◌, eqb};
 ghost use Rattle.floats.specs.Operators.{if◌then◌else◌};
 ghost use Rattle.root.specs.Root.{SquareRoot, whole_root};

@@ -1,4 +1,6 @@
 // One round of Brent's method, as the Rust's `implied_volatility` writes it.
+#![tactic(auto)]
+
 ghost use Rattle.std.specs.Prelude.{◌≡◌};
 ghost use Rattle.brent.specs.Brent.{reset, swap, tolerance, middle, converged, turned, interpolation, tries, accepts, steps, step, advance};
 

@@ -1,4 +1,6 @@
 // Rows of numbers made offers, options and the book's record, and answers made rows: which entry is which is ledger/specs/Rows'.
+#![tactic(auto)]
+
 ghost use Rattle.std.specs.Prelude.{◌≡◌, min};
 ghost use Rattle.blackscholes.specs.Implied.{outcome_of_implied};
 ghost use Rattle.ledger.specs.Rows.{kind_of, terms_of, offer_of, option_of, numbers_of, evidence_of, shortest, book_in};

@@ -1,4 +1,6 @@
 // The words of an answer.
+#![tactic(auto)]
+
 ghost use Rattle.std.specs.Prelude.{◌≡◌};
 ghost use Rattle.blackscholes.specs.Model.{at_volatility};
 ghost use Rattle.blackscholes.specs.Checks.{pricing, sensitivities};

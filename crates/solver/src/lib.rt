@@ -1,4 +1,6 @@
 // Document 01's solver, fed one price at a time by any model: Brent's method as the Rust's `implied_volatility` writes it.
+#![tactic(auto)]
+
 ghost use Rattle.std.specs.Prelude.{◌≡◌};
 ghost use Rattle.brent.specs.Outcome.{outcome};
 ghost use Rattle.brent.specs.Feed.{over, fresh, refuse, ask, find, start, placed, in_range, is_unusable, is_unbracketed, feed_number, feed};

@@ -1,9 +1,11 @@
 // The lines of a byte stream, whatever its chunks: the part of a line that is held, the bytes taken into it, and how many lines there are.
-ghost use Rattle.std.specs.Prelude.{◌≡◌, ◌≤◌, length};
-ghost use Rattle.hex.specs.Frames.{frame_of};
-ghost use Rattle.hex.specs.Lines.{unended, held, no_line, pushed, taken, feed_in, feeds};
+#![tactic(auto)]
 
-use hex::{Frame, Line, Taken};
+ghost use Rattle.std.specs.Prelude.{◌≡◌, ◌≤◌, length};
+ghost use Rattle.hexlines.specs.Frames.{frame_of};
+ghost use Rattle.hexlines.specs.Lines.{unended, held, no_line, pushed, taken, feed_in, feeds};
+
+use hexlines::{Frame, Line, Taken};
 
 pub fn no_line() -> Line
     ensures { result ≡ no_line }

@@ -1,4 +1,6 @@
 // A volatility surface of quotes: axes, cells and counts, as `VolSurface::from_points` of src/options/surface.rs makes them.
+#![tactic(auto)]
+
 ghost use Rattle.std.specs.Prelude.{◌≡◌, true, ◌∷◌, ◌++◌, suc, ◌+◌, ◌-◌, ◌≤◌, ◌<◌, T, eqb, length, take, drop, get_or};
 ghost use Rattle.std.specs.Float.{nan};
 ghost use Rattle.std.specs.Float.Ieee.Positive.{positive};

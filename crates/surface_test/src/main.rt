@@ -1,12 +1,17 @@
 // Replays the vectors of vectors.py: reads calls as words of 16 hexadecimal digits, one a line, makes them, and writes what comes back, a word a line.
 // A call is the number of its words, its kind, and what the functions `run_..` say. Every entry of every lent buffer goes into a digest, in use or not.
+#![tactic(auto)]
+
 ghost use Rattle.std.specs.Prelude.{◌+◌, ◌<◌, ◌≤◌, length};
 
 use chart::Built;
 use gaps::Filling;
 use grid::Reading;
 use ledger::{AtTheMoney, Book};
-use libc::{STDIN_FILENO, STDOUT_FILENO};
+
+const STDIN_FILENO: i32 = 0;
+
+const STDOUT_FILENO: i32 = 1;
 
 fn wide(b: u8) -> u64 {
     b as u64

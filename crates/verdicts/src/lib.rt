@@ -1,4 +1,6 @@
 // What an offer is answered and the record after it, by value: every check, then the solver. Crate `book` writes what is kept.
+#![tactic(auto)]
+
 ghost use Rattle.std.specs.Prelude.{◌≡◌, ◌+◌, ◌<◌, ◌≤◌, false};
 ghost use Rattle.limits.specs.Checks.{none};
 ghost use Rattle.ledger.specs.Model.{bsm, bad_price, bad_volatility};

@@ -11,7 +11,7 @@ use Rattle.blackscholes.specs.declared.OptionType.TheVariants.{Call, Put}
 use Rattle.blackscholes.specs.declared.OptionParams.{OptionParams}
 use Rattle.blackscholes.specs.Checks.{pricing}
 use Rattle.chart.specs.declared.Built.TheVariants as Built
-use Rattle.hex.specs.Examples.{bytes}
+use Rattle.hexlines.specs.Examples.{bytes}
 use Rattle.ledger.specs.Model.{volatility, priced}
 use Rattle.ledger.specs.Money.{no_money}
 use Rattle.wording.specs.declared.Request.{Request}

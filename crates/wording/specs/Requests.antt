@@ -4,7 +4,7 @@ use Prim.Native.String.{String}
 use Rattle.std.specs.Float.{binary64}
 use Rattle.std.specs.Float.Ieee.{of_bits}
 use Rattle.floats.specs.Operators.{if◌then◌else◌}
-use Rattle.hex.specs.Examples.{bytes}
+use Rattle.hexlines.specs.Examples.{bytes}
 use Rattle.blackscholes.specs.declared.OptionParams.{OptionParams}
 use Rattle.ledger.specs.Rows.{kind_of}
 unfoldable pub use Rattle.ledger.specs.Rows.{offer_of, option_of}

@@ -1,0 +1,39 @@
+-- `book::offer`: what was decided, and where it was found the columns filed at index kept. Assumes nothing.
+use mathlib.Core.Path.{◌≡◌, sym, ap, ◌∙◌}
+use Rattle.limits.specs.Outcome.{done}
+use Rattle.blackscholes.specs.Implied.{outcome_of_implied}
+use Rattle.ledger.specs.Model.{bsm}
+use Rattle.ledger.specs.Book.{Columns, columns_of, is_short, offer_outcome, columns_after}
+use Rattle.ledger.specs.Calls.{Replies}
+use Rattle.verdicts.proofs.Offering.{accepted, within}
+use borrow.Author.Rules.{rules}
+use Rattle.book.proofs.offer.Goals as goal
+
+pub returns : goal.returns
+unfolding columns_after outcome_of_implied is_short
+returns c =
+    let C : Columns = let a = c.args in columns_of a.strikes.now a.expiries.now a.volatilities.now in
+    let decided : let a = c.args in Replies (offer_outcome bsm (is_short C) a.book a.offer) a.book c.decide-heard.result = rw c.is_short_lem.ensures at c.decide-heard.ensures in
+    let a = c.args in
+    let refused = ap outcome_of_implied (sym c.enum_told-1.given.1) ∙ decided.outcome in
+    record { replies = decided; columns = ap (columns_after a.book C a.offer) refused }
+
+pub file-requires : goal.file-requires
+unfolding is_short outcome_of_implied
+file-requires c =
+    let C : Columns = let a = c.args in columns_of a.strikes.now a.expiries.now a.volatilities.now in
+    let decided : let a = c.args in Replies (offer_outcome bsm (is_short C) a.book a.offer) a.book c.decide-heard.result = rw c.is_short_lem.ensures at c.decide-heard.ensures in
+    let solved : done c.answer-1.given.0.0 ≡ offer_outcome bsm (is_short C) c.args.book c.args.offer = ap outcome_of_implied (sym c.answer-1.given.1) ∙ decided.outcome in
+    let k = accepted bsm (is_short C) c.args.book c.args.offer c.answer-1.given.0.0 solved in
+    within c.args.book.kept C k.entry.long k.place
+
+pub returns : goal.returns
+unfolding columns_after is_short outcome_of_implied
+returns c =
+    let C : Columns = let a = c.args in columns_of a.strikes.now a.expiries.now a.volatilities.now in
+    let decided : let a = c.args in Replies (offer_outcome bsm (is_short C) a.book a.offer) a.book c.decide-heard.result = rw c.is_short_lem.ensures at c.decide-heard.ensures in
+    let solved : done c.answer-1.given.0.0 ≡ offer_outcome bsm (is_short C) c.args.book c.args.offer = ap outcome_of_implied (sym c.answer-1.given.1) ∙ decided.outcome in
+    let f = found c in
+    let d = f in
+    let a = (entry d).args in
+    record { replies = decided d; columns = c.file.ensures ∙ ap (columns_after a.book (C d) a.offer) (solved f) }

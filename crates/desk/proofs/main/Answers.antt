@@ -1,0 +1,7 @@
+-- `desk::main`: the buffer has 19 bytes for each byte of a read. Assumes nothing.
+use native.Mathlib.Omega.{arith}
+use borrow.Author.Rules.{rules}
+use Rattle.desk.proofs.main.Goals as goal
+
+pub serve-requires : goal.serve-requires
+serve-requires c = (omega arith, omega arith)

@@ -1,0 +1,16 @@
+-- `filler::sweep_rows`: one row more in each round, lent as a part and given back. Assumes nothing.
+use Rattle.gaps.proofs.Passes.{rows_step}
+use Rattle.grid.proofs.Rows.{RowWithin, row_within}
+use borrow.Rule.Slice.PartMut.{same_len_mid}
+use Rattle.gaps.specs.Gaps.{rows_swept}
+use Prim.Native.Nat.{◌+◌, ◌-◌, ◌*◌, ◌≤◌}
+use mathlib.Core.Path.{◌≡◌, refl, ◌∙◌}
+use lib.ListN.{length}
+use native.Mathlib.Omega.{arith}
+use Rattle.filler.proofs.sweep_rows.Given as goal
+
+abbrev pub invariant-loop-i : goal.invariant-loop-i
+invariant-loop-i l = (l.i ≤ l.expiries) × (length l.grid ≡ length l.initial.grid) × (l.grid ≡ rows_swept l.i l.strikes l.initial.grid)
+
+abbrev pub decreases-loop-i : goal.decreases-loop-i
+decreases-loop-i l = l.expiries - l.i

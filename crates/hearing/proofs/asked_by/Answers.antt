@@ -1,0 +1,28 @@
+-- `hearing::asked_by`: an arm for each frame. Assumes nothing.
+use Rattle.protocol.specs.Hear.{asked_by}
+use borrow.Author.Rules.{rules}
+use Rattle.hearing.proofs.asked_by.Goals as goal
+
+pub returns-in-Open : goal.returns-in-Open
+unfolding asked_by
+returns-in-Open c = rw c.frame-1.given.1
+
+pub returns-in-Call : goal.returns-in-Call
+unfolding asked_by
+returns-in-Call c = rw c.frame-in-Call-1.given.1 c.priced.ensures
+
+pub returns-in-Put : goal.returns-in-Put
+unfolding asked_by
+returns-in-Put c = rw c.frame-in-Put-1.given.1 c.priced-in-Put.ensures
+
+pub returns-in-Vol : goal.returns-in-Vol
+unfolding asked_by
+returns-in-Vol c = rw c.frame-in-Vol-1.given.1
+
+pub returns-in-Read : goal.returns-in-Read
+unfolding asked_by
+returns-in-Read c = rw c.frame-in-Read-1.given.1
+
+pub returns-in-Bad : goal.returns-in-Bad
+unfolding asked_by
+returns-in-Bad c = rw c.enum_told-1.given.1

@@ -1,0 +1,14 @@
+-- `hearing::offered`: an arm for each case. Assumes nothing.
+use lib.Ieee.{of_bits, round}
+use borrow.Author.Rules.{rules}
+use Rattle.blackscholes.specs.Implied.{outcome_of_implied}
+use Rattle.protocol.specs.Hear.{said}
+use Rattle.hearing.proofs.offered.Goals as goal
+
+pub returns-in-Found : goal.returns-in-Found
+unfolding said outcome_of_implied
+returns-in-Found c C = rw c.answer-1.given.1
+
+pub returns-in-Refused : goal.returns-in-Refused
+unfolding said outcome_of_implied of_bits round
+returns-in-Refused c C = rw c.answer-in-Refused-1.given.1

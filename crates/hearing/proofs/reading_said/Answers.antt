@@ -1,0 +1,13 @@
+-- `hearing::reading_said`: an arm for each case. Assumes nothing.
+use lib.Ieee.{of_bits, round}
+use borrow.Author.Rules.{rules}
+use Rattle.protocol.specs.Hear.{said}
+use Rattle.hearing.proofs.reading_said.Goals as goal
+
+pub returns-in-Value : goal.returns-in-Value
+unfolding said
+returns-in-Value c C = rw c.reading-1.given.1
+
+pub returns-in-Refused : goal.returns-in-Refused
+unfolding said of_bits round
+returns-in-Refused c C = rw c.reading-in-Refused-1.given.1

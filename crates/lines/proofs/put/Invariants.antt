@@ -1,0 +1,15 @@
+-- `lines::put`: the bytes before i are pasted. Assumes nothing.
+use mathlib.Core.Path.{◌≡◌, refl}
+use lib.ListN.{length}
+use native.Mathlib.Omega.{arith}
+use Prim.Native.Nat.{◌-◌, ◌≤◌}
+use native.Mathlib.Numerals.{add-one}
+use lib.ListN.{length-set}
+use lib.Seq.{paste, paste-zero, paste-suc}
+use Rattle.lines.proofs.put.Given as goal
+
+abbrev pub invariant-loop-i : goal.invariant-loop-i
+invariant-loop-i l = (l.i ≤ 19) × (l.out ≡ paste l.initial.out l.at l.text l.i) × (length l.out ≡ length l.initial.out)
+
+abbrev pub decreases-loop-i : goal.decreases-loop-i
+decreases-loop-i l = 19 - l.i

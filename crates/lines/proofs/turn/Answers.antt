@@ -1,0 +1,19 @@
+-- `lines::turn`: an empty part ends the input, any other is heard. Assumes nothing.
+use borrow.Author.Rules.{rules}
+use Rattle.ledger.specs.Book.{columns_of}
+use Rattle.protocol.specs.Calls.{turned}
+use Rattle.protocol.proofs.Rooms.{at_end, at_chunk}
+use Rattle.lines.proofs.turn.Goals as goal
+
+pub returns : goal.returns
+unfolding turned
+returns c =
+    let a = c.args in
+    let c₀ = columns_of a.strikes.now a.expiries.now a.volatilities.now in
+    at_end a.state c₀ a.part.now a.out.now _ c.if-part-eq0.taken c.finish.ensures
+
+pub returns : goal.returns
+returns c =
+    let a = c.args in
+    let c₀ = columns_of a.strikes.now a.expiries.now a.volatilities.now in
+    at_chunk a.state c₀ a.part.now a.out.now _ c.if-part-eq0.left c.feed.ensures

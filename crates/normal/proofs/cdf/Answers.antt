@@ -1,0 +1,6 @@
+-- `normal::cdf`: the first of a pair. Assumes nothing.
+use borrow.Author.Rules.{rules}
+use Rattle.normal.proofs.cdf.Goals as goal
+
+pub returns : goal.returns
+returns c = rw c.cdf_pair-r.ensures

@@ -1,0 +1,6 @@
+-- `normal::erfc`: the first of a pair. Assumes nothing.
+use borrow.Author.Rules.{rules}
+use Rattle.normal.proofs.erfc.Goals as goal
+
+pub returns : goal.returns
+returns c = rw c.erfc_pair-r.ensures

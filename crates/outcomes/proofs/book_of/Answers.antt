@@ -1,0 +1,12 @@
+-- `outcomes::book_of`: an arm for each case. Assumes nothing.
+use Rattle.trays.specs.Tray.{book_of}
+use borrow.Author.Rules.{rules}
+use Rattle.outcomes.proofs.book_of.Goals as goal
+
+pub returns-in-Refused : goal.returns-in-Refused
+unfolding book_of
+returns-in-Refused c = simp c.tray-1.given.1
+
+pub returns-in-Quoted : goal.returns-in-Quoted
+unfolding book_of
+returns-in-Quoted c = simp c.tray-in-Quoted-1.given.1

@@ -1,0 +1,9 @@
+-- `outcomes::built_number`: an arm for each case. Assumes nothing.
+use borrow.Author.Rules.{rules}
+use Rattle.outcomes.proofs.built_number.Goals as goal
+
+pub returns-in-Surface : goal.returns-in-Surface
+returns-in-Surface c = simp c.enum_told-1.given.1
+
+pub returns-in-Refused : goal.returns-in-Refused
+returns-in-Refused c = simp c.built-1.given.1

@@ -1,0 +1,12 @@
+-- `outcomes::built_of`: an arm for each case. Assumes nothing.
+use Rattle.trays.specs.Tray.{built_of}
+use borrow.Author.Rules.{rules}
+use Rattle.outcomes.proofs.built_of.Goals as goal
+
+pub returns-in-Refused : goal.returns-in-Refused
+unfolding built_of
+returns-in-Refused c = simp c.tray-1.given.1
+
+pub returns-in-Quoted : goal.returns-in-Quoted
+unfolding built_of
+returns-in-Quoted c = simp c.tray-in-Quoted-1.given.1

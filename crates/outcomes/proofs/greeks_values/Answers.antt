@@ -1,0 +1,12 @@
+-- `outcomes::greeks_values`: an arm for each case. Assumes nothing.
+use Rattle.blackscholes.specs.Checks.{outcome_of_greeks}
+use borrow.Author.Rules.{rules}
+use Rattle.outcomes.proofs.greeks_values.Goals as goal
+
+pub returns-in-Found : goal.returns-in-Found
+unfolding outcome_of_greeks
+returns-in-Found c = simp c.answer-1.given.1
+
+pub returns-in-Refused : goal.returns-in-Refused
+unfolding outcome_of_greeks
+returns-in-Refused c = simp (c.no_greeks.ensures, c.enum_told-1.given.1)

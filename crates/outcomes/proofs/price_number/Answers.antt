@@ -1,0 +1,12 @@
+-- `outcomes::price_number`: an arm for each case. Assumes nothing.
+use Rattle.blackscholes.specs.Checks.{outcome_of_price}
+use borrow.Author.Rules.{rules}
+use Rattle.outcomes.proofs.price_number.Goals as goal
+
+pub returns-in-Price : goal.returns-in-Price
+unfolding outcome_of_price
+returns-in-Price c = simp c.enum_told-1.given.1
+
+pub returns-in-Refused : goal.returns-in-Refused
+unfolding outcome_of_price
+returns-in-Refused c = simp c.answer-1.given.1

@@ -1,0 +1,6 @@
+-- `readings::away_from`: the magnitude of the difference. Assumes nothing.
+use borrow.Author.Rules.{rules}
+use Rattle.readings.proofs.away_from.Goals as goal
+
+pub returns : goal.returns
+returns c = c.abs.ensures

@@ -1,0 +1,14 @@
+-- `root::exact_root`: after n rounds q * q + rem is t * 4^n (Squares). Assumes nothing.
+use mathlib.Core.Path.{◌≡◌, sym, ap, ◌∙◌}
+use Prim.Native.Nat.{ℕ, ◌+◌, ◌-◌, ◌*◌, ◌^◌, ◌≤◌}
+use native.Mathlib.Omega.{arith}
+use native.Mathlib.Nat.{mul-one, add-zero}
+use borrow.Author.Rules.{rules}
+use Rattle.root.proofs.Squares.{below_60, grow, grown_lt}
+use Rattle.root.proofs.exact_root.Given as goal
+
+abbrev pub invariant-loop-n : goal.invariant-loop-n
+invariant-loop-n l = (l.n ≤ 26) × (l.q * l.q + l.rem ≡ l.t * 2 ^ (2 * l.n)) × (l.rem ≤ 2 * l.q)
+
+abbrev pub decreases-loop-n : goal.decreases-loop-n
+decreases-loop-n l = 26 - l.n

@@ -1,0 +1,9 @@
+-- `rows::terms_of`: an arm for each kind of terms. Assumes nothing.
+use borrow.Author.Rules.{rules}
+use Rattle.rows.proofs.terms_of.Goals as goal
+
+pub returns : goal.returns
+returns c = simp (c.if-is_price.true, c.kind_of.ensures)
+
+pub returns : goal.returns
+returns c = simp c.if-is_price.false

@@ -1,0 +1,12 @@
+-- `slips::build_words`: an arm for each case. Assumes nothing.
+use Rattle.wording.specs.Words.{build_words}
+use borrow.Author.Rules.{rules}
+use Rattle.slips.proofs.build_words.Goals as goal
+
+pub returns-in-Surface : goal.returns-in-Surface
+unfolding build_words
+returns-in-Surface c = rw c.answer-1.given.1
+
+pub returns-in-Refused : goal.returns-in-Refused
+unfolding build_words
+returns-in-Refused c = rw c.answer-in-Refused-1.given.1
