@@ -69,9 +69,12 @@ written_once s m e n d p q h =
 -- what tests equal to a float above 0 is that float
 pub same_of_eq : (x y : Float) → T (fits binary64 x) → T (fits binary64 y) → O ≺ y ≡ true → eq x y ≡ true → x ≡ y
 same_of_eq x y f g q h =
-    by_above (λ y. T (fits binary64 y) → eq x y ≡ true → x ≡ y) (λ g h. is_infinity x (unfold round in unfold div in h)) (λ n d. at x n d f)
+    by_above (λ y. T (fits binary64 y) → eq x y ≡ true → x ≡ y) (λ g h. past x h) (λ n d. at x n d f)
     y (above_of_lt y q) g h
   where
+    past : (x : Float) → eq x (inf false) ≡ true → x ≡ inf false
+    past x h = is_infinity x (unfold round in unfold div in h)
+
     signs : (a b : ℕ) → 0 < b → (eqb a b && (false || eqb a 0)) ≡ true → ⊥
     signs a b B h =
         let e = eqb-true a b (and_left (eqb a b) (false || eqb a 0) h) in

@@ -79,7 +79,7 @@ returns-then-v-4 c = at_inf c.args.v (is_infinity c.args.v c.if-v-4.true)
 pub overflow_add-d : goal.overflow_add-d
 unfolding of_bits round
 overflow_add-d c =
-    let held : T (fits binary64 c.args.v) = subst T (sym c.type_inv.0.1) tt in
+    let held : T (fits binary64 c.args.v) = subst T (sym c.well_formed.0.1) tt in
     let is_pos : T (positive c.args.v) =
     is_positive c.args.v c.if-v.false c.if-v-2.false c.if-v-3.false
     c.if-v-4.false in
@@ -91,7 +91,7 @@ overflow_add-d c =
 pub float_from_bits-d : goal.float_from_bits-d
 unfolding of_bits round
 float_from_bits-d c =
-    let held : T (fits binary64 c.args.v) = subst T (sym c.type_inv.0.1) tt in
+    let held : T (fits binary64 c.args.v) = subst T (sym c.well_formed.0.1) tt in
     let is_pos : T (positive c.args.v) =
     is_positive c.args.v c.if-v.false c.if-v-2.false c.if-v-3.false
     c.if-v-4.false in
@@ -104,7 +104,7 @@ float_from_bits-d c =
 pub overflow_cast-z : goal.overflow_cast-z
 unfolding of_bits round
 overflow_cast-z c =
-    let held : T (fits binary64 c.args.v) = subst T (sym c.type_inv.0.1) tt in
+    let held : T (fits binary64 c.args.v) = subst T (sym c.well_formed.0.1) tt in
     let is_pos : T (positive c.args.v) =
     is_positive c.args.v c.if-v.false c.if-v-2.false c.if-v-3.false
     c.if-v-4.false in
@@ -116,7 +116,7 @@ overflow_cast-z c =
 pub overflow_sub-z : goal.overflow_sub-z
 unfolding of_bits round
 overflow_sub-z c =
-    let held : T (fits binary64 c.args.v) = subst T (sym c.type_inv.0.1) tt in
+    let held : T (fits binary64 c.args.v) = subst T (sym c.well_formed.0.1) tt in
     let is_pos : T (positive c.args.v) =
     is_positive c.args.v c.if-v.false c.if-v-2.false c.if-v-3.false
     c.if-v-4.false in
@@ -130,7 +130,7 @@ overflow_sub-z c =
 pub ln_from-requires : goal.ln_from-requires
 unfolding of_bits round
 ln_from-requires c =
-    let held : T (fits binary64 c.args.v) = subst T (sym c.type_inv.0.1) tt in
+    let held : T (fits binary64 c.args.v) = subst T (sym c.well_formed.0.1) tt in
     let is_pos : T (positive c.args.v) =
     is_positive c.args.v c.if-v.false c.if-v-2.false c.if-v-3.false
     c.if-v-4.false in
@@ -144,7 +144,7 @@ ln_from-requires c =
 pub returns : goal.returns
 unfolding of_bits round
 returns c =
-    let held : T (fits binary64 c.args.v) = subst T (sym c.type_inv.0.1) tt in
+    let held : T (fits binary64 c.args.v) = subst T (sym c.well_formed.0.1) tt in
     let is_pos : T (positive c.args.v) =
     is_positive c.args.v c.if-v.false c.if-v-2.false c.if-v-3.false
     c.if-v-4.false in

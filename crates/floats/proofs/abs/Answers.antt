@@ -11,7 +11,7 @@ returns-then-x c = negative_magnitude c.args.x c.if-x.true
 
 pub returns-then-x-2 : goal.returns-then-x-2
 unfolding of_bits round
-returns-then-x-2 c = zero_magnitude c.args.x (subst T (sym c.type_inv.0.1) tt) c.if-x-2.true
+returns-then-x-2 c = zero_magnitude c.args.x (subst T (sym c.well_formed.0.1) tt) c.if-x-2.true
 
 pub returns-else-x-2 : goal.returns-else-x-2
 unfolding of_bits round

@@ -24,8 +24,8 @@ returns c =
     let D = O ≺ y in
     let t3 = and_left (A && B && C) D c.if-e-x.true in
     let t2 = and_left (A && B) C t3 in
-    let g = vanishes x e.result (subst T (sym c.type_inv.0.1) tt) c.requires.0 (and_right A B t2) e.ensures (and_left A B t2) in
-    let h = vanishes y f.result (subst T (sym c.type_inv.1.0.1) tt) c.requires.1
+    let g = vanishes x e.result (subst T (sym c.well_formed.0.1) tt) c.requires.0 (and_right A B t2) e.ensures (and_left A B t2) in
+    let h = vanishes y f.result (subst T (sym c.well_formed.1.0.1) tt) c.requires.1
     (and_right (A && B && C) D c.if-e-x.true) f.ensures (and_right (A && B) C t3) in
     rw (g, h)
 

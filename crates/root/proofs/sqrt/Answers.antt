@@ -95,35 +95,35 @@ both v r f e = record { equals = e; nearest = λ (p : T (positive v)). subst (λ
 
 pub returns : goal.returns
 returns c =
-    let held : T (fits binary64 c.args.v) = subst T (sym c.type_inv.0.1) tt in
+    let held : T (fits binary64 c.args.v) = subst T (sym c.well_formed.0.1) tt in
     both c.args.v c.args.v held
     (at_nan c.args.v (differs_from_itself c.args.v (subst T (sym c.if-v.true) tt)))
 
 pub returns-then-v-2 : goal.returns-then-v-2
 unfolding div of_bits round
 returns-then-v-2 c =
-    let held : T (fits binary64 c.args.v) = subst T (sym c.type_inv.0.1) tt in
+    let held : T (fits binary64 c.args.v) = subst T (sym c.well_formed.0.1) tt in
     both c.args.v nan held
     (at_negative c.args.v (is_negative c.args.v c.if-v-2.true))
 
 pub returns-then-v-3 : goal.returns-then-v-3
 unfolding of_bits round
 returns-then-v-3 c =
-    let held : T (fits binary64 c.args.v) = subst T (sym c.type_inv.0.1) tt in
+    let held : T (fits binary64 c.args.v) = subst T (sym c.well_formed.0.1) tt in
     both c.args.v c.args.v held
     (at_zero c.args.v (is_zero c.args.v c.if-v-3.true))
 
 pub returns-then-v-4 : goal.returns-then-v-4
 unfolding of_bits round
 returns-then-v-4 c =
-    let held : T (fits binary64 c.args.v) = subst T (sym c.type_inv.0.1) tt in
+    let held : T (fits binary64 c.args.v) = subst T (sym c.well_formed.0.1) tt in
     both c.args.v c.args.v held
     (at_inf c.args.v (is_infinity c.args.v c.if-v-4.true))
 
 pub radicand-t-requires : goal.radicand-t-requires
 unfolding of_bits round
 radicand-t-requires c =
-    let held : T (fits binary64 c.args.v) = subst T (sym c.type_inv.0.1) tt in
+    let held : T (fits binary64 c.args.v) = subst T (sym c.well_formed.0.1) tt in
     let is_pos : T (positive c.args.v) =
     is_positive c.args.v c.if-v.false c.if-v-2.false c.if-v-3.false
     c.if-v-4.false in
@@ -135,7 +135,7 @@ radicand-t-requires c =
 pub overflow_add-k : goal.overflow_add-k
 unfolding of_bits round
 overflow_add-k c =
-    let held : T (fits binary64 c.args.v) = subst T (sym c.type_inv.0.1) tt in
+    let held : T (fits binary64 c.args.v) = subst T (sym c.well_formed.0.1) tt in
     let is_pos : T (positive c.args.v) =
     is_positive c.args.v c.if-v.false c.if-v-2.false c.if-v-3.false
     c.if-v-4.false in
@@ -147,7 +147,7 @@ overflow_add-k c =
 pub exact_root-root-requires : goal.exact_root-root-requires
 unfolding of_bits round
 exact_root-root-requires c =
-    let held : T (fits binary64 c.args.v) = subst T (sym c.type_inv.0.1) tt in
+    let held : T (fits binary64 c.args.v) = subst T (sym c.well_formed.0.1) tt in
     let is_pos : T (positive c.args.v) =
     is_positive c.args.v c.if-v.false c.if-v-2.false c.if-v-3.false
     c.if-v-4.false in
@@ -163,7 +163,7 @@ exact_root-root-requires c =
 pub rounded-m-requires : goal.rounded-m-requires
 unfolding of_bits round
 rounded-m-requires c =
-    let held : T (fits binary64 c.args.v) = subst T (sym c.type_inv.0.1) tt in
+    let held : T (fits binary64 c.args.v) = subst T (sym c.well_formed.0.1) tt in
     let is_pos : T (positive c.args.v) =
     is_positive c.args.v c.if-v.false c.if-v-2.false c.if-v-3.false
     c.if-v-4.false in
@@ -182,7 +182,7 @@ rounded-m-requires c =
 pub overflow_mul-result : goal.overflow_mul-result
 unfolding of_bits round
 overflow_mul-result c =
-    let held : T (fits binary64 c.args.v) = subst T (sym c.type_inv.0.1) tt in
+    let held : T (fits binary64 c.args.v) = subst T (sym c.well_formed.0.1) tt in
     let is_pos : T (positive c.args.v) =
     is_positive c.args.v c.if-v.false c.if-v-2.false c.if-v-3.false
     c.if-v-4.false in
@@ -194,7 +194,7 @@ overflow_mul-result c =
 pub overflow_add-result : goal.overflow_add-result
 unfolding of_bits round
 overflow_add-result c =
-    let held : T (fits binary64 c.args.v) = subst T (sym c.type_inv.0.1) tt in
+    let held : T (fits binary64 c.args.v) = subst T (sym c.well_formed.0.1) tt in
     let is_pos : T (positive c.args.v) =
     is_positive c.args.v c.if-v.false c.if-v-2.false c.if-v-3.false
     c.if-v-4.false in
@@ -215,7 +215,7 @@ overflow_add-result c =
 pub float_from_bits-result : goal.float_from_bits-result
 unfolding of_bits round
 float_from_bits-result c =
-    let held : T (fits binary64 c.args.v) = subst T (sym c.type_inv.0.1) tt in
+    let held : T (fits binary64 c.args.v) = subst T (sym c.well_formed.0.1) tt in
     let is_pos : T (positive c.args.v) =
     is_positive c.args.v c.if-v.false c.if-v-2.false c.if-v-3.false
     c.if-v-4.false in
@@ -236,7 +236,7 @@ float_from_bits-result c =
 pub returns : goal.returns
 unfolding of_bits round
 returns c =
-    let held : T (fits binary64 c.args.v) = subst T (sym c.type_inv.0.1) tt in
+    let held : T (fits binary64 c.args.v) = subst T (sym c.well_formed.0.1) tt in
     let is_pos : T (positive c.args.v) =
     is_positive c.args.v c.if-v.false c.if-v-2.false c.if-v-3.false
     c.if-v-4.false in

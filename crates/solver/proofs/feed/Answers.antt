@@ -23,10 +23,6 @@ held s error h = go (is_unusable s) refl
     go true e = absurd (h (at_21 e))
     go false e = usable s e
 
-)
-
-)
-
 pub returns : goal.returns
 unfolding outcome feed
 returns c = simp (sym c.feed_number-number.ensures ∙ c.if-number-eq21.true)
@@ -42,6 +38,7 @@ returns-then-number-ne0 c = simp (
   ne_eqb _ _ c.if-number-eq21.false,
   ne_eqb _ _
       c.if-number-ne0.true,
+)
 
 pub returns-then-made-eq0 : goal.returns-then-made-eq0
 unfolding feed
@@ -76,6 +73,7 @@ overflow_add-s c = omega (
   (held c.args.s _
       (λ e. c.if-number-eq21.false
       (c.feed_number-number.ensures ∙ e))).rounds,
+)
 
 pub returns : goal.returns
 unfolding feed

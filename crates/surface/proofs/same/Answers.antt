@@ -11,4 +11,4 @@ pub returns : goal.returns
 returns c h =
     let x = c.args.x in
     let p = lt_of_above x (above_of_le x x c.requires (le_self x c.requires)) in
-    same_of_eq c.args.y x (subst T (sym c.type_inv.0.1) tt) (subst T (sym c.type_inv.1.0.1) tt) p h
+    same_of_eq c.args.y x (subst T (sym c.well_formed.0.1) tt) (subst T (sym c.well_formed.1.0.1) tt) p h
