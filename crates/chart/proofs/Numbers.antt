@@ -99,7 +99,7 @@ plus_added x i j s (q ∷ qs) h r =
     let v = plus_positive q.volatility (volatility_positive q.volatility w) in
     let rest = and_right (in_range q) (all_in_range qs) r in
     split (eqb (place x.expiries q.expiry) i && eqb (place x.strikes q.strike) j)
-    (λ t. rw t (plus_added x i j _ qs (plus_add s q.volatility h v) rest)) (λ t. rw t (plus_added x i j s qs h rest))
+    (λ t. rw t (plus_added x i j (s ⊕ q.volatility) qs (plus_add s q.volatility h v) rest)) (λ t. rw t (plus_added x i j s qs h rest))
 
 pub mean_number : (x : Axes) (i j n : ℕ) (qs : List Quote) → all_in_range qs ≡ true → 0 < n → n ≤ 1024
     → is_nan (added (decimal 0 1) (counted x i j qs) ⊘ decimal n 1) ≡ false

@@ -44,7 +44,7 @@ module _ (x : Float) where
     doubled_alike : {us ws : List Float} → Doubled x us ws → Alike us ws
     unfolding sorted_into
     doubled_alike d [] = thinned_doubled d
-    doubled_alike d (z ∷ zs) = doubled_alike (insert_doubled z d) zs
+    doubled_alike {us = us} {ws = ws} d (z ∷ zs) = doubled_alike {us = insert z us} {ws = insert z ws} (insert_doubled z d) zs
 
   -- the value before the place of x is x: it stands there already
   standing : (ys : List Float) → 0 < above x ys → get_or ys (above x ys - 1) nan ≡ x → Doubled x (insert x ys) ys

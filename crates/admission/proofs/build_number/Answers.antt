@@ -10,9 +10,9 @@ use mathlib.Core.Bool.{false}
 use native.Mathlib.Omega.{arith}
 use Rattle.admission.proofs.build_number.Goals as goal
 
-pub returns : goal.returns
+pub returns-then-strikes-expiries : goal.returns-then-strikes-expiries
 unfolding is_short first
-returns c = simp c.if-strikes-expiries.true
+returns-then-strikes-expiries c = simp c.if-strikes-expiries.true
 
 pub returns-then-kept-gt1024 : goal.returns-then-kept-gt1024
 unfolding is_short is_wrong first

@@ -34,7 +34,7 @@ offset_bounds-numbers-i c =
     (at.i < a.n) × (a.n ≤ length a.kinds.now) × (a.n ≤ length a.figures.now) × (a.n ≤ length at.numbers) × (a.n ≤ length at.evidence) = let v = c.loop-i.invariant in (c.loop-i-test.true, v.1, v.2, v.3, v.4) in
     let p = inside in
     let l = c.loop-i.invariant.5 in
-    let g = c.good in
+    let g = c.well_formed in
     omega (arith, p.0, p.3, l, g)
 
 pub bounds-numbers-i : goal.bounds-numbers-i
@@ -49,7 +49,7 @@ offset_bounds-evidence-i c =
     (at.i < a.n) × (a.n ≤ length a.kinds.now) × (a.n ≤ length a.figures.now) × (a.n ≤ length at.numbers) × (a.n ≤ length at.evidence) = let v = c.loop-i.invariant in (c.loop-i-test.true, v.1, v.2, v.3, v.4) in
     let p = inside in
     let l = c.loop-i.invariant.6 in
-    let g = c.good in
+    let g = c.well_formed in
     omega (arith, p.0, p.4, l, g)
 
 pub bounds-evidence-i : goal.bounds-evidence-i
@@ -92,7 +92,7 @@ loop-i-preserved c =
       offer_lengths bsm at.b _ C o.result O.result _ O.ensures v.7,
       turn a.kinds.now a.figures.now a.n at.i (record { book = at.b; columns = C }) o.result
           (answers at.numbers at.evidence) _ _ O.result _ _ _
-          p.0 q O.ensures c.Numbers-of.ensures c.evidence_of-shown.ensures v.8,
+          p.0 q O.ensures c.numbers_of-counted.ensures c.evidence_of-shown.ensures v.8,
     )
 
 pub shape_of-numbers : goal.shape_of-numbers

@@ -9,9 +9,9 @@ use Rattle.verdicts.proofs.Offering.{accepted, within}
 use borrow.Author.Rules.{rules}
 use Rattle.book.proofs.offer.Goals as goal
 
-pub returns : goal.returns
+pub returns-in_default : goal.returns-in_default
 unfolding columns_after outcome_of_implied is_short
-returns c =
+returns-in_default c =
     let C : Columns = let a = c.args in columns_of a.strikes.now a.expiries.now a.volatilities.now in
     let decided : let a = c.args in Replies (offer_outcome bsm (is_short C) a.book a.offer) a.book c.decide-heard.result = rw c.is_short_lem.ensures at c.decide-heard.ensures in
     let a = c.args in
@@ -33,7 +33,5 @@ returns c =
     let C : Columns = let a = c.args in columns_of a.strikes.now a.expiries.now a.volatilities.now in
     let decided : let a = c.args in Replies (offer_outcome bsm (is_short C) a.book a.offer) a.book c.decide-heard.result = rw c.is_short_lem.ensures at c.decide-heard.ensures in
     let solved : done c.answer-1.given.0.0 ≡ offer_outcome bsm (is_short C) c.args.book c.args.offer = ap outcome_of_implied (sym c.answer-1.given.1) ∙ decided.outcome in
-    let f = found c in
-    let d = f in
-    let a = (entry d).args in
-    record { replies = decided d; columns = c.file.ensures ∙ ap (columns_after a.book (C d) a.offer) (solved f) }
+    let a = c.args in
+    record { replies = decided; columns = c.file.ensures ∙ ap (columns_after a.book C a.offer) solved }

@@ -7,9 +7,9 @@ use Rattle.ledger.specs.Book.{open_refusal, opened, outcome_of_opening}
 use borrow.Author.Rules.{rules}
 use Rattle.book.proofs.open.Goals as goal
 
-pub returns : goal.returns
+pub returns-then-number-ne0 : goal.returns-then-number-ne0
 unfolding opened answered outcome_of_opening of_bits round
-returns c =
+returns-then-number-ne0 c =
     let a = c.args in
     let n = c.open_number-number.ensures in
     let r = open_refusal (record { spot = a.spot; rate = a.rate }) in

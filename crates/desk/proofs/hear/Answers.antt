@@ -12,8 +12,8 @@ write_text-requires c =
       roomy a.state C a.part.now a.out.now c.turn-step.result _ _ c.turn-step.ensures c.requires.part_in_bounds c.requires.in_bounds,
     )
 
-pub returns : goal.returns
-returns c =
+pub returns-then-not-write_text : goal.returns-then-not-write_text
+returns-then-not-write_text c =
     let C : Columns = let a = c.args in columns_of a.strikes.now a.expiries.now a.volatilities.now in
     let a = c.args in
     rw c.hold.ensures

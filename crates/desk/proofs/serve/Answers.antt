@@ -39,7 +39,7 @@ loop-turns-preserved c =
       search rules,
       search rules,
       search rules,
-      and_then (length a.input.now) first last _ l.t.more _ _ _ c.if-t.taken (search rules) v.5 c.answer-t.ensures,
+      and_then (length a.input.now) first last _ l.t.more _ _ _ c.if-t.true (search rules) v.5 c.answer-t.ensures,
     )
 
 pub shape_of-input-else-t : goal.shape_of-input-else-t

@@ -39,8 +39,8 @@ plus_fits (negsuc i) n h l = go (ltb n (suc i))
     go true = few_fits (negsuc (suc i - suc n)) (omega arith)
     go false = few_fits (pos (n - suc i)) (omega arith)
 
-pub returns : goal.returns
-returns c = at_nan c.args.v (differs_from_itself c.args.v (subst T (sym c.if-v.true) tt))
+pub returns-then-v : goal.returns-then-v
+returns-then-v c = at_nan c.args.v (differs_from_itself c.args.v (subst T (sym c.if-v.true) tt))
 
 pub returns-then-v-2 : goal.returns-then-v-2
 unfolding div of_bits round
@@ -84,7 +84,7 @@ two_to-requires-2 c =
     let k_of : ℤ = floor (scaled tried) in
     let k_few : mag k_of < 1076 = few k_of (range_exponent 1075 _ t-range) in
     let back : to_z w64 (of_z w64 c.floor-k.result) ≡ k_of = ap (λ (z : ℤ). to_z w64 (of_z w64 z)) c.floor-k.ensures ∙ to_z-of_z w64 k_of (let h = k_few in few_fits k_of (omega arith)) in
-    let normal-k : T (in_exponent k_of) = k_normal tried number c.if-v-2.left c.if-v-4.false in
+    let normal-k : T (in_exponent k_of) = k_normal tried number c.if-v-2.false c.if-v-4.false in
     rw back normal-k
 
 pub returns : goal.returns
@@ -98,7 +98,7 @@ returns c =
     let back : to_z w64 (of_z w64 c.floor-k.result) ≡ k_of = ap (λ (z : ℤ). to_z w64 (of_z w64 z)) c.floor-k.ensures ∙ to_z-of_z w64 k_of (let h = k_few in few_fits k_of (omega arith)) in
     let p-is : c.horner-p.result ≡ sum_at tried k_of = c.horner-p.ensures ∙ sum_E _ c.table_e-table.ensures _ ∙ ap (sum_at tried) back in
     rw (p-is, c.two_to-2.ensures, back)
-    (sym (exp_normal tried number c.if-v-2.left c.if-v-4.false))
+    (sym (exp_normal tried number c.if-v-2.false c.if-v-4.false))
 
 pub overflow_add-k : goal.overflow_add-k
 unfolding of_bits neg round floor
@@ -123,7 +123,7 @@ two_to-requires c =
     let far-back : to_z w64 (of_z w64 (to_z w64 (of_z w64 c.floor-k.result) +ℤ pos 200)) ≡ k_of +ℤ pos 200 =
     ap (λ (z : ℤ). to_z w64 (of_z w64 (z +ℤ pos 200))) back
     ∙ to_z-of_z w64 _ (plus_fits k_of 200 (lit≤ tt) k_few) in
-    let far-k : T (in_exponent (k_of +ℤ pos 200)) = far_exponent tried (subst T (sym c.good.0.1) tt) number c.if-v-2.left c.if-v-3.left c.if-v-4.true in
+    let far-k : T (in_exponent (k_of +ℤ pos 200)) = far_exponent tried (subst T (sym c.well_formed.0.1) tt) number c.if-v-2.false c.if-v-3.false c.if-v-4.true in
     subst (λ (z : ℤ). T (in_exponent z)) (sym far-back) far-k
 
 pub returns-then-v-4 : goal.returns-then-v-4

@@ -18,7 +18,7 @@ module _ (t : Float) (s : Small t) (q : ℤ) (e : q ≡ to_signed 63 t) where
   less_back = ap (λ (z : ℤ). to_z w64 (of_z w64 (z -ℤ pos 1))) read_back ∙ to_z-of_z w64 (cut_of t -ℤ pos 1) (cut_less_fits t s)
 
 pub truncating_f64_to_i64-q-requires : goal.truncating_f64_to_i64-q-requires
-truncating_f64_to_i64-q-requires c = (small_low c.args.t c.requires, small_high c.args.t c.requires)
+truncating_f64_to_i64-q-requires c = record { lower_bound = small_low c.args.t c.requires; upper_bound = small_high c.args.t c.requires }
 
 pub int_to_float-q : goal.int_to_float-q
 int_to_float-q c =

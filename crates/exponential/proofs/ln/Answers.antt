@@ -61,8 +61,8 @@ size_back z h = to_z-of_z w64 (pos z) (record { sfits = omega arith })
 less_back : (z : ℕ) → z < 2099 → to_z w64 (of_z w64 (to_z w64 z -ℤ pos 1075)) ≡ pos z -ℤ pos 1075
 less_back z h = ap (λ (y : ℤ). to_z w64 (of_z w64 (y -ℤ pos 1075))) (size_back z h) ∙ to_z-of_z w64 (pos z -ℤ pos 1075) (less_fits z h)
 
-pub returns : goal.returns
-returns c = at_nan c.args.v (differs_from_itself c.args.v (subst T (sym c.if-v.true) tt))
+pub returns-then-v : goal.returns-then-v
+returns-then-v c = at_nan c.args.v (differs_from_itself c.args.v (subst T (sym c.if-v.true) tt))
 
 pub returns-then-v-2 : goal.returns-then-v-2
 unfolding div of_bits round

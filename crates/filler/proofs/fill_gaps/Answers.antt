@@ -13,9 +13,9 @@ use lib.ListN.{length}
 use lib.Ieee.{Float}
 use Rattle.filler.proofs.fill_gaps.Goals as goal
 
-pub returns : goal.returns
+pub returns-then-number-ne0 : goal.returns-then-number-ne0
 unfolding answered unless_refused fill_refusal
-returns c =
+returns-then-number-ne0 c =
     let told : let A = c.args in fill_refusal A.strikes A.expiries A.grid.now ≡ c.first-number.result =
     let A = c.args in
     sym (c.first-number.ensures ∙ ap (λ (n : ℕ). first (ltb 64 A.strikes || ltb 32 A.expiries) 2 n) c.first.ensures) in
@@ -40,11 +40,11 @@ sweep_columns-requires c =
     sym (c.first-number.ensures ∙ ap (λ (n : ℕ). first (ltb 64 A.strikes || ltb 32 A.expiries) 2 n) c.first.ensures) in
     let passed : let A = c.args in (A.strikes ≤ 64) × (A.expiries ≤ 32) × (2048 ≤ length A.grid.now) = let A = c.args in fits A.strikes A.expiries A.grid.now (told ∙ c.if-number-ne0.false) in
     let P = passed in
-    (rw c.sweep_rows.auto.0 P.2, P.0, P.1)
+    (rw c.sweep_rows.auto.grid P.2, P.0, P.1)
 
 pub shape_of-grid : goal.shape_of-grid
 shape_of-grid c =
-    c.sweep_columns.auto.0 ∙ c.sweep_rows.auto.0
+    c.sweep_columns.auto.grid ∙ c.sweep_rows.auto.grid
 
 pub returns : goal.returns
 unfolding answered unless_refused gaps_filled fill_refusal
@@ -52,7 +52,7 @@ returns c =
     let told : let A = c.args in fill_refusal A.strikes A.expiries A.grid.now ≡ c.first-number.result =
     let A = c.args in
     sym (c.first-number.ensures ∙ ap (λ (n : ℕ). first (ltb 64 A.strikes || ltb 32 A.expiries) 2 n) c.first.ensures) in
-    let e = told ∙ c.if-number-ne0.left in
+    let e = told ∙ c.if-number-ne0.false in
     let A = c.args in
     let w = c.sweep_columns.ensures ∙ ap (λ (g : List Float). columns_swept A.strikes A.expiries g) c.sweep_rows.ensures in
     record { answers = rw e; grid = rw e w }

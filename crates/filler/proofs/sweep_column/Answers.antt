@@ -29,34 +29,34 @@ pub slice_bounds-cells-end-2 : goal.slice_bounds-cells-end-2
 slice_bounds-cells-end-2 c =
     let few : length (take c.args.expiries blank) ≡ c.args.expiries = length-take-le c.args.expiries blank c.requires.1 in
     let rest : List Float = drop c.args.expiries blank in
-    let sized : length c.gather_swept.new.0 ≡ c.args.expiries = c.gather_swept.auto.0 ∙ few in
-    omega (arith, length-append c.gather_swept.new.0 rest, sized)
+    let sized : length c.gather_swept.new.cells ≡ c.args.expiries = c.gather_swept.auto.cells ∙ few in
+    omega (arith, length-append c.gather_swept.new.cells rest, sized)
 
 pub slice_bounds-scatter-end : goal.slice_bounds-scatter-end
 slice_bounds-scatter-end c =
     let few : length (take c.args.expiries blank) ≡ c.args.expiries = length-take-le c.args.expiries blank c.requires.1 in
     let rest : List Float = drop c.args.expiries blank in
-    let sized : length c.gather_swept.new.0 ≡ c.args.expiries = c.gather_swept.auto.0 ∙ few in
-    let front : length (take c.args.expiries (c.gather_swept.new.0 ++ rest)) ≡ c.args.expiries = ap (λ (l : List Float). length l) (take_at c.gather_swept.new.0 rest c.args.expiries sized) ∙ sized in
+    let sized : length c.gather_swept.new.cells ≡ c.args.expiries = c.gather_swept.auto.cells ∙ few in
+    let front : length (take c.args.expiries (c.gather_swept.new.cells ++ rest)) ≡ c.args.expiries = ap (λ (l : List Float). length l) (take_at c.gather_swept.new.0 rest c.args.expiries sized) ∙ sized in
     sym front
 
 pub scatter-requires : goal.scatter-requires
 scatter-requires c =
     let few : length (take c.args.expiries blank) ≡ c.args.expiries = length-take-le c.args.expiries blank c.requires.1 in
     let rest : List Float = drop c.args.expiries blank in
-    let sized : length c.gather_swept.new.0 ≡ c.args.expiries = c.gather_swept.auto.0 ∙ few in
-    let front : length (take c.args.expiries (c.gather_swept.new.0 ++ rest)) ≡ c.args.expiries = ap (λ (l : List Float). length l) (take_at c.gather_swept.new.0 rest c.args.expiries sized) ∙ sized in
+    let sized : length c.gather_swept.new.cells ≡ c.args.expiries = c.gather_swept.auto.cells ∙ few in
+    let front : length (take c.args.expiries (c.gather_swept.new.cells ++ rest)) ≡ c.args.expiries = ap (λ (l : List Float). length l) (take_at c.gather_swept.new.0 rest c.args.expiries sized) ∙ sized in
     (rw front c.requires.1, c.requires.2, c.requires.0)
 
 pub shape_of-grid : goal.shape_of-grid
-shape_of-grid c = c.scatter.auto.0
+shape_of-grid c = c.scatter.auto.grid
 
 pub returns : goal.returns
 returns c =
     let few : length (take c.args.expiries blank) ≡ c.args.expiries = length-take-le c.args.expiries blank c.requires.1 in
     let rest : List Float = drop c.args.expiries blank in
-    let sized : length c.gather_swept.new.0 ≡ c.args.expiries = c.gather_swept.auto.0 ∙ few in
+    let sized : length c.gather_swept.new.cells ≡ c.args.expiries = c.gather_swept.auto.cells ∙ few in
     let G = c.gather_swept in
     let A = c.args in
     let n = A.expiries in
-    c.scatter.ensures ∙ column_put A.grid.now G.new.0 rest blank A.j n c.requires.1 sized G.ensures
+    c.scatter.ensures ∙ column_put A.grid.now G.new.cells rest blank A.j n c.requires.1 sized G.ensures

@@ -14,7 +14,7 @@ pub loop-j-preserved : goal.loop-j-preserved
 loop-j-preserved c =
     let I = c.loop-j.invariant in
     let F = c.sweep_column in
-    (omega arith, F.auto.0 ∙ I.1, columns_step _ _ _ _ _ I.2 F.ensures)
+    (omega arith, F.auto.grid ∙ I.1, columns_step _ _ _ _ _ I.2 F.ensures)
 
 pub shape_of-grid : goal.shape_of-grid
 shape_of-grid c = c.loop-j.invariant.1

@@ -49,7 +49,7 @@ loop-i-preserved c =
     let at = c.loop-i in
     let k = 64 * at.i + c.args.strikes - 64 * at.i in (
       omega (arith, c.loop-i-test.true),
-      same_len_mid (64 * at.i) k at.grid F.new.0 F.auto.0 ∙ at.invariant.1,
+      same_len_mid (64 * at.i) k at.grid F.new.row F.auto.row ∙ at.invariant.1,
       rows_step _ _ _ _ _ _ row.width at.invariant.2 F.ensures,
     )
 

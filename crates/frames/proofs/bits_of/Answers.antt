@@ -7,9 +7,9 @@ use lib.Ieee.Compare.{differs_from_itself}
 use Rattle.hexlines.proofs.Patterns.{same_no_nan}
 use Rattle.frames.proofs.bits_of.Goals as goal
 
-pub returns : goal.returns
+pub returns-then-x : goal.returns-then-x
 unfolding to_bits
-returns c = rw (differs_from_itself c.args.x (subst T (sym c.if-x.true) tt))
+returns-then-x c = rw (differs_from_itself c.args.x (subst T (sym c.if-x.true) tt))
 
 pub float_to_bits-result : goal.float_to_bits-result
 float_to_bits-result c = rw (same_no_nan c.args.x c.if-x.false) tt

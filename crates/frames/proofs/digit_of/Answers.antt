@@ -4,9 +4,9 @@ use borrow.Author.Tests.{le-leb, lt-leb}
 use Rattle.hexlines.specs.Hex.{digit}
 use Rattle.frames.proofs.digit_of.Goals as goal
 
-pub returns : goal.returns
+pub returns-then-d-le9 : goal.returns-then-d-le9
 unfolding digit
-returns c = simp (le-leb _ _ c.if-d-le9.true)
+returns-then-d-le9 c = simp (le-leb _ _ c.if-d-le9.true)
 
 pub returns : goal.returns
 unfolding digit

@@ -9,9 +9,9 @@ pub overflow_sub-result : goal.overflow_sub-result
 unfolding between
 overflow_sub-result c = above "0" "9" c.args.b (sym c.between.ensures ∙ c.if-between.true)
 
-pub returns : goal.returns
+pub returns-then-between : goal.returns-then-between
 unfolding between digit_value
-returns c = simp (sym c.between.ensures ∙ c.if-between.true)
+returns-then-between c = simp (sym c.between.ensures ∙ c.if-between.true)
 
 pub overflow_sub-result-then-between-2 : goal.overflow_sub-result-then-between-2
 unfolding between

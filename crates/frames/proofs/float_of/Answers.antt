@@ -5,9 +5,9 @@ use lib.Ieee.{div, of_bits}
 use Rattle.hexlines.proofs.Patterns.{above_is_nan, below_no_nan}
 use Rattle.frames.proofs.float_of.Goals as goal
 
-pub returns : goal.returns
+pub returns-then-bits-gt9218868437227405312 : goal.returns-then-bits-gt9218868437227405312
 unfolding div of_bits
-returns c = rw (above_is_nan c.args.bits (lt-ltb _ _ c.if-bits-gt9218868437227405312.true))
+returns-then-bits-gt9218868437227405312 c = rw (above_is_nan c.args.bits (lt-ltb _ _ c.if-bits-gt9218868437227405312.true))
 
 pub float_from_bits-result : goal.float_from_bits-result
 float_from_bits-result c = rw (below_no_nan c.args.bits (le-ltb _ _ c.if-bits-gt9218868437227405312.false)) tt

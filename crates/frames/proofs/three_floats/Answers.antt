@@ -5,21 +5,21 @@ use borrow.Author.Tests.{ne_eqb}
 use Rattle.hexlines.specs.Frames.{is_frame, frame_of}
 use Rattle.frames.proofs.three_floats.Goals as goal
 
-pub returns : goal.returns
+pub returns-then-k-eq17 : goal.returns-then-k-eq17
 unfolding frame_of is_frame
-returns c =
+returns-then-k-eq17 c =
     let kind = sym c.kind-k.ensures ∙ c.if-k-eq17.true in
-    simp (c.requires.s_len, c.requires.s_value, kind, c.Float-at.ensures, c.float_at-expiry.ensures, c.float_at-value.ensures)
+    simp (c.requires.s_len, c.requires.s_value, kind, c.float_at-strike.ensures, c.float_at-expiry.ensures, c.float_at-value.ensures)
 
 pub returns-then-k-eq18 : goal.returns-then-k-eq18
 unfolding frame_of is_frame
 returns-then-k-eq18 c =
-    simp (c.requires.s_len, c.requires.s_value, sym c.kind-k.ensures ∙ c.if-k-eq18.true, c.Float-at.ensures, c.float_at-expiry.ensures, c.float_at-value.ensures)
+    simp (c.requires.s_len, c.requires.s_value, sym c.kind-k.ensures ∙ c.if-k-eq18.true, c.float_at-strike.ensures, c.float_at-expiry.ensures, c.float_at-value.ensures)
 
 pub returns-then-k-eq19 : goal.returns-then-k-eq19
 unfolding frame_of is_frame
 returns-then-k-eq19 c =
-    simp (c.requires.s_len, c.requires.s_value, sym c.kind-k.ensures ∙ c.if-k-eq19.true, c.Float-at.ensures, c.float_at-expiry.ensures, c.float_at-value.ensures)
+    simp (c.requires.s_len, c.requires.s_value, sym c.kind-k.ensures ∙ c.if-k-eq19.true, c.float_at-strike.ensures, c.float_at-expiry.ensures, c.float_at-value.ensures)
 
 pub returns : goal.returns
 unfolding frame_of is_frame

@@ -5,17 +5,17 @@ use mathlib.Core.Path.{sym, ◌∙◌}
 use Rattle.hexlines.specs.Frames.{is_frame, frame_of}
 use Rattle.frames.proofs.two_floats.Goals as goal
 
-pub returns : goal.returns
+pub returns-then-k-eq16 : goal.returns-then-k-eq16
 unfolding frame_of is_frame
-returns c =
+returns-then-k-eq16 c =
     let e = sym c.kind-k.ensures ∙ c.if-k-eq16.true in
-    simp (c.requires.s_len, c.requires.s_value, e, c.Float-at.ensures, c.float_at-y.ensures)
+    simp (c.requires.s_len, c.requires.s_value, e, c.float_at-x.ensures, c.float_at-y.ensures)
 
 pub returns-then-k-eq32 : goal.returns-then-k-eq32
 unfolding frame_of is_frame
 returns-then-k-eq32 c =
     let e = sym c.kind-k.ensures ∙ c.if-k-eq32.true in
-    simp (c.requires.s_len, c.requires.s_value, e, c.Float-at.ensures, c.float_at-y.ensures)
+    simp (c.requires.s_len, c.requires.s_value, e, c.float_at-x.ensures, c.float_at-y.ensures)
 
 pub returns : goal.returns
 unfolding frame_of is_frame

@@ -6,9 +6,9 @@ use Rattle.blackscholes.specs.Checks.{refusal, outcome_of_greeks, sensitivities}
 use borrow.Author.Rules.{rules}
 use Rattle.greeks.proofs.bsm_greeks.Goals as goal
 
-pub returns : goal.returns
+pub returns-then-number-ne0 : goal.returns-then-number-ne0
 unfolding sensitivities outcome_of_greeks answered
-returns c =
+returns-then-number-ne0 c =
     let p = c.args.params in
     let n = c.refusal_number-number.ensures in
     simp (n, ne_eqb (refusal p) 0 (λ (e : refusal p ≡ 0). c.if-number-ne0.true (n ∙ e)))

@@ -5,9 +5,9 @@ use Rattle.blackscholes.specs.Implied.{implied_refusal, implied, outcome_of_impl
 use borrow.Author.Rules.{rules}
 use Rattle.greeks.proofs.implied_volatility.Goals as goal
 
-pub returns : goal.returns
+pub returns-then-number-ne0 : goal.returns-then-number-ne0
 unfolding implied outcome_of_implied
-returns c =
+returns-then-number-ne0 c =
     let args = c.args in
     let n = c.implied_number-number.ensures in
     let k = implied_refusal args.market args.params in

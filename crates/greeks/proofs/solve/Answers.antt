@@ -24,8 +24,8 @@ last-requires c =
     let e = sym (rests at.left (price_at args.q) at.answer c.in-Ask.keys2) ∙ at.invariant in
     subst Closed (sym e) (run_closed args.market (price_at args.q))
 
-pub returns : goal.returns
-returns c =
+pub returns-in_default : goal.returns-in_default
+returns-in_default c =
     let at = c.loop-left in
     let args = c.args in
     c.last.ensures ∙ sym (rests at.left (price_at args.q) at.answer c.in-Ask.keys2) ∙ at.invariant

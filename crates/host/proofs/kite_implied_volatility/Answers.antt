@@ -15,7 +15,7 @@ use Rattle.host.proofs.kite_implied_volatility.Goals as goal
 pub returns : goal.returns
 unfolding end_of of_bits round numbers_of evidence_of
 returns c =
-    let n = c.Numbers-of.ensures in
+    let n = c.numbers_of-numbers.ensures in
     let a = c.implied_volatility-answer in
     let e = ap end_of (rw c.option_of.ensures at a.ensures) in
     told_over (outcome_of_implied a.result) _ e (numbered_implied _ _) solved_written _ _ (ap (λ (l : List ℕ). get_or l 0 0) n)

@@ -2,9 +2,9 @@
 use Rattle.limits.specs.Checks.{first}
 use Rattle.limits.proofs.first.Goals as goal
 
-pub returns : goal.returns
+pub returns-then-holds : goal.returns-then-holds
 unfolding first
-returns c = simp c.if-holds.true
+returns-then-holds c = simp c.if-holds.true
 
 pub returns : goal.returns
 unfolding first

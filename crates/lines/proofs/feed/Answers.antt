@@ -13,8 +13,8 @@ use Rattle.lines.proofs.Leaving.{chunk_short, chunk_fed}
 use borrow.Author.Rules.{rules}
 use Rattle.lines.proofs.feed.Goals as goal
 
-pub returns : goal.returns
-returns c =
+pub returns-then-out-lines : goal.returns-then-out-lines
+returns-then-out-lines c =
     let C₀ : Columns = let a = c.args in columns_of a.strikes.now a.expiries.now a.volatilities.now in
     let a = c.args in
     chunk_short a.state C₀ a.chunk.now a.out.now _ _ c.count_lines-lines.ensures c.if-out-lines.true c.short.ensures
@@ -47,10 +47,10 @@ line_ended-p-requires c =
     t.ensures c.holding.ensures v.3 lines (omega (arith, v.0, v.1, v.2))
 
 pub overflow_add-heard : goal.overflow_add-heard
-overflow_add-heard c = let i = turning c in omega (arith, i.loop-test.true, (begun i).count-lines.ok)
+overflow_add-heard c = omega (arith, c.loop-heard-test.true, c.count_lines-lines.ok)
 
 pub loop-heard-smaller : goal.loop-heard-smaller
-loop-heard-smaller c = omega (arith, (turning c).loop-test.true)
+loop-heard-smaller c = omega (arith, c.loop-heard-test.true)
 
 pub loop-heard-preserved : goal.loop-heard-preserved
 loop-heard-preserved c =

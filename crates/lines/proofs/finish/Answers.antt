@@ -14,8 +14,8 @@ use Rattle.lines.proofs.Leaving.{end_short, end_finished}
 use borrow.Author.Rules.{rules}
 use Rattle.lines.proofs.finish.Goals as goal
 
-pub returns : goal.returns
-returns c =
+pub returns-then-out-lines : goal.returns-then-out-lines
+returns-then-out-lines c =
     let C : Columns = let a = c.args in columns_of a.strikes.now a.expiries.now a.volatilities.now in
     let a = c.args in
     end_short a.state C a.out.now _ _ c.begun-lines.ensures c.if-out-lines.true c.short.ensures
@@ -46,7 +46,7 @@ line_ended-requires c =
     let b = c.begin-p.ensures in
     let whole = whole-line in
     (ap (λ (p : Progress). length p.line.bytes) b ∙ whole, ap (λ (p : Progress). p.line.seen) b, ap (λ (p : Progress). p.at) b) in
-    omega (arith, begins.2, c.if-lines-eq0.left, c.if-out-lines.left)
+    omega (arith, begins.2, c.if-lines-eq0.false, c.if-out-lines.false)
 
 pub returns : goal.returns
 returns c =
@@ -59,6 +59,6 @@ returns c =
     (ap (λ (p : Progress). length p.line.bytes) b ∙ whole, ap (λ (p : Progress). p.line.seen) b, ap (λ (p : Progress). p.at) b) in
     let a = c.args in
     let f = begins in
-    let begun : c.begin-p.result.line.seen ≡ 0 → ⊥ = λ z. c.if-lines-eq0.left (c.begun-lines.ensures ∙ begun_none a.state.line (sym f.1 ∙ z)) in
+    let begun : c.begin-p.result.line.seen ≡ 0 → ⊥ = λ z. c.if-lines-eq0.false (c.begun-lines.ensures ∙ begun_none a.state.line (sym f.1 ∙ z)) in
     end_finished a.state C a.out.now c.begun-lines.result c.begin-p.result c.line_ended.result _ _ _
-    c.begun-lines.ensures c.if-out-lines.left c.begin-p.ensures (goes_last at _ f.0 begun c.line_ended.ensures) c.written-2.ensures
+    c.begun-lines.ensures c.if-out-lines.false c.begin-p.ensures (goes_last at _ f.0 begun c.line_ended.ensures) c.written-2.ensures

@@ -6,16 +6,16 @@ pub near_pair-requires : goal.near_pair-requires
 unfolding of_bits round
 near_pair-requires c = (c.if-x.true, c.if-y.true)
 
-pub returns : goal.returns
-returns c = c.near_pair.ensures
+pub returns-then-y : goal.returns-then-y
+returns-then-y c = c.near_pair.ensures
 
 pub near_pair-s-requires : goal.near_pair-s-requires
 unfolding of_bits round
 near_pair-s-requires c = (c.if-x.true, c.if-x.true)
 
-pub far_pair-requires : goal.far_pair-requires
+pub far_pair-t-requires : goal.far_pair-t-requires
 unfolding of_bits round
-far_pair-requires c = (c.if-y.false, c.if-y.false)
+far_pair-t-requires c = (c.if-y.false, c.if-y.false)
 
 pub returns-then-x : goal.returns-then-x
 returns-then-x c = simp (c.near_pair-s.ensures, c.far_pair-t.ensures)

@@ -11,9 +11,9 @@ use borrow.Author.Rules.{rules}
 use Rattle.gauss.proofs.Vanish.{over, vanishes}
 use Rattle.normal.proofs.far_pair.Goals as goal
 
-pub returns : goal.returns
+pub returns-then-e-x : goal.returns-then-e-x
 unfolding of_bits round
-returns c =
+returns-then-e-x c =
     let x = c.args.x in
     let y = c.args.y in
     let e = c.exp-e in

@@ -12,9 +12,9 @@ pub loop-k-init : goal.loop-k-init
 unfolding series
 loop-k-init c = (omega arith, refl, refl, refl, refl)
 
-pub returns : goal.returns
+pub returns-then-settled : goal.returns-then-settled
 unfolding of_bits round of_int
-returns c =
+returns-then-settled c =
     let args = c.args in
     let l = c.loop-k in
     let inv = l.invariant in

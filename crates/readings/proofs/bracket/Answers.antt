@@ -15,9 +15,9 @@ use Rattle.readings.proofs.bracket.Goals as goal
 pub partition_point-pos-requires : goal.partition_point-pos-requires
 partition_point-pos-requires c = c.requires.1
 
-pub returns : goal.returns
+pub returns-then-n-pos : goal.returns-then-n-pos
 unfolding of_bits round
-returns c =
+returns-then-n-pos c =
     let sized : length (take c.args.n c.args.sorted.now) ≡ c.args.n = length-take-le c.args.n c.args.sorted.now c.requires.1 in
     (bracket_first _ _ _ c.args.x sized c.partition_point-pos.ensures c.if-n-pos.true, c.requires.0, c.requires.0)
 

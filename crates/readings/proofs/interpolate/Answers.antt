@@ -6,14 +6,14 @@ use mathlib.Core.Path.{sym, ◌∙◌}
 use native.Mathlib.Omega.{arith}
 use Rattle.readings.proofs.interpolate.Goals as goal
 
-pub returns : goal.returns
-returns c = read_refused _ _ _ _ _ _ _ _ c.read_number-number.ensures c.if-number-ne0.true
+pub returns-then-number-ne0 : goal.returns-then-number-ne0
+returns-then-number-ne0 c = read_refused _ _ _ _ _ _ _ _ c.read_number-number.ensures c.if-number-ne0.true
 
 pub bracket-s-requires : goal.bracket-s-requires
 bracket-s-requires c =
     let Fit : Type 0 =
     let A = c.args in
-    Passed A.strike_axis.now A.expiry-axis.now A.grid.now A.strikes A.expiries A.strike A.expiry in
+    Passed A.strike_axis.now A.expiry_axis.now A.grid.now A.strikes A.expiries A.strike A.expiry in
     let fit : Fit = passed _ _ _ _ _ _ _ _ c.read_number-number.ensures c.if-number-ne0.false in
     let P = fit in
     (P.some_strikes, omega (arith, P.few_strikes, P.long_strikes))
@@ -22,7 +22,7 @@ pub bracket-e-requires : goal.bracket-e-requires
 bracket-e-requires c =
     let Fit : Type 0 =
     let A = c.args in
-    Passed A.strike_axis.now A.expiry-axis.now A.grid.now A.strikes A.expiries A.strike A.expiry in
+    Passed A.strike_axis.now A.expiry_axis.now A.grid.now A.strikes A.expiries A.strike A.expiry in
     let fit : Fit = passed _ _ _ _ _ _ _ _ c.read_number-number.ensures c.if-number-ne0.false in
     let P = fit in
     (P.some_expiries, omega (arith, P.few_expiries, P.long_expiries))
@@ -31,7 +31,7 @@ pub corner_cells-v-requires : goal.corner_cells-v-requires
 corner_cells-v-requires c =
     let Fit : Type 0 =
     let A = c.args in
-    Passed A.strike_axis.now A.expiry-axis.now A.grid.now A.strikes A.expiries A.strike A.expiry in
+    Passed A.strike_axis.now A.expiry_axis.now A.grid.now A.strikes A.expiries A.strike A.expiry in
     let fit : Fit = passed _ _ _ _ _ _ _ _ c.read_number-number.ensures c.if-number-ne0.false in
     let P = fit in
     let s = c.bracket-s.ensures in
@@ -47,7 +47,7 @@ pub returns-then-has_gap : goal.returns-then-has_gap
 returns-then-has_gap c =
     let Fit : Type 0 =
     let A = c.args in
-    Passed A.strike_axis.now A.expiry-axis.now A.grid.now A.strikes A.expiries A.strike A.expiry in
+    Passed A.strike_axis.now A.expiry_axis.now A.grid.now A.strikes A.expiries A.strike A.expiry in
     let fit : Fit = passed _ _ _ _ _ _ _ _ c.read_number-number.ensures c.if-number-ne0.false in
     let s = c.bracket-s.ensures.0 in
     let e = c.bracket-e.ensures.0 in
@@ -57,7 +57,7 @@ pub returns : goal.returns
 returns c =
     let Fit : Type 0 =
     let A = c.args in
-    Passed A.strike_axis.now A.expiry-axis.now A.grid.now A.strikes A.expiries A.strike A.expiry in
+    Passed A.strike_axis.now A.expiry_axis.now A.grid.now A.strikes A.expiries A.strike A.expiry in
     let fit : Fit = passed _ _ _ _ _ _ _ _ c.read_number-number.ensures c.if-number-ne0.false in
     let s = c.bracket-s.ensures.0 in
     let e = c.bracket-e.ensures.0 in

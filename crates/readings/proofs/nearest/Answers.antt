@@ -13,30 +13,11 @@ use lib.Ieee.{Float, nan}
 use native.Mathlib.Omega.{arith}
 use Rattle.readings.proofs.nearest.Goals as goal
 
-abbrev axis_of : Tested → List Float
-axis_of c = take (start c).args.n (start c).args.axis.now
-
-abbrev away : Tested → ℕ → Float
-away c j = away_from (start c).args.spot (get_or (axis_of c) j nan)
-
-tested : (c : Tested) (t : Bool) → c.before.before.away-from.result ≺ c.away-from2.result ≡ t
-    → away c (turn c).before.loop.i ≺ away c (turn c).before.loop.at ≡ t
-tested c t e =
-    let A = (start c).args in
-    let at = (turn c).before.loop in
-    let here : at.i < A.n = (turn c).loop-test.true in
-    let lead : at.at < A.n = omega (arith, at.inv.3.within) in
-    rw (
-      get_or-take A.n A.axis.now at.i nan here,
-      get_or-take A.n A.axis.now at.at nan lead,
-      ← c.before.before.away-from.ensures,
-      ← c.away-from2.ensures,
-    ) e
-
--- HELPER
--- both distances are known
-abbrev Tested : Type 0
-Tested = tie.After-away-from2 invariant-loop decreases-loop
+-- a test of two distances, read off the values of the axis
+tested : (spot : Float) (axis : List Float) (n i at : ℕ) (x y : Float) (t : Bool) → i < n → at < n
+    → x ≡ away_from spot (get_or axis i nan) → y ≡ away_from spot (get_or axis at nan) → x ≺ y ≡ t
+    → away_from spot (get_or (take n axis) i nan) ≺ away_from spot (get_or (take n axis) at nan) ≡ t
+tested spot axis n i at x y t here lead p q e = rw (get_or-take n axis i nan here, get_or-take n axis at nan lead, ← p, ← q) e
 
 pub loop-i-init : goal.loop-i-init
 loop-i-init c =
@@ -55,12 +36,15 @@ loop-i-preserved-then-away_from c =
     let I = c.loop-i.invariant in
     let A = c.args in
     let long = length-take-le A.n A.axis.now I.0 in
-    (I.0, I.1, omega arith, lead_move A.spot (axis_of c) _ _ I.1 (omega arith) (tested c true c.if-away_from.true) I.3)
+    (I.0, I.1, omega arith, lead_move A.spot (take A.n A.axis.now) _ _ I.1 (omega arith)
+    (tested A.spot A.axis.now A.n _ _ _ _ true (omega arith) (omega (arith, I.3.within)) c.away_from.ensures c.away_from-in-loop-i.ensures c.if-away_from.true) I.3)
 
 pub loop-i-preserved : goal.loop-i-preserved
 loop-i-preserved c =
     let I = c.loop-i.invariant in
-    (I.0, I.1, omega arith, lead_keep c.args.spot (axis_of c) _ _ (tested c false c.if-away_from.false) I.3)
+    let A = c.args in
+    (I.0, I.1, omega arith, lead_keep A.spot (take A.n A.axis.now) _ _
+    (tested A.spot A.axis.now A.n _ _ _ _ false (omega arith) (omega (arith, I.3.within)) c.away_from.ensures c.away_from-in-loop-i.ensures c.if-away_from.false) I.3)
 
 pub returns : goal.returns
 returns c =

@@ -10,19 +10,19 @@ use lib.Ieee.{nan}
 use borrow.Author.Rules.{rules}
 use Rattle.readings.proofs.nearest_of.Goals as goal
 
-pub returns : goal.returns
+pub returns-then-not-is_axis : goal.returns-then-not-is_axis
 unfolding nearest_strike
-returns c = let no = sym c.is_axis.ensures ∙ not-true _ c.if-not-is_axis.true in rw no c.nan.ensures
+returns-then-not-is_axis c = let no = sym c.is_axis.ensures ∙ c.if-not-is_axis.true in rw no c.nan.ensures
 
 pub nearest-at-requires : goal.nearest-at-requires
 nearest-at-requires c =
-    let axis : is_axis (take c.args.n c.args.axis.now) ≡ true = sym c.is_axis.ensures ∙ not-false _ c.if-not-is_axis.false in
+    let axis : is_axis (take c.args.n c.args.axis.now) ≡ true = sym c.is_axis.ensures ∙ c.if-not-is_axis.false in
     (c.requires, axis)
 
 pub returns : goal.returns
 unfolding nearest_strike
 returns c =
-    let axis : is_axis (take c.args.n c.args.axis.now) ≡ true = sym c.is_axis.ensures ∙ not-false _ c.if-not-is_axis.false in
+    let axis : is_axis (take c.args.n c.args.axis.now) ≡ true = sym c.is_axis.ensures ∙ c.if-not-is_axis.false in
     let A = c.args in
     let N = c.nearest-at.ensures in
     rw (axis, ← N.0, get_or-take A.n A.axis.now c.nearest-at.result nan N.1)

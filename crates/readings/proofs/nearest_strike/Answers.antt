@@ -6,8 +6,8 @@ use borrow.Author.Rules.{rules}
 use native.Mathlib.Omega.{arith}
 use Rattle.readings.proofs.nearest_strike.Goals as goal
 
-pub returns : goal.returns
-returns c =
+pub returns-then-strikes-all : goal.returns-then-strikes-all
+returns-then-strikes-all c =
     let A = c.args in
     let most : length A.strike_axis.now ≤ A.strikes = omega arith in
     rw (take_all) (rw take-length at c.nearest_of.ensures)

@@ -1,8 +1,8 @@
 use Rattle.grid.proofs.First.{Looking, look_start, look_on, look_hit, look_end}
-use mathlib.Core.Bool.{true, false}
+use mathlib.Core.Bool.{true, false, not}
 use Rattle.grid.specs.Readings.{above}
 use Prim.Native.Nat.{◌-◌, ◌≤◌}
-use mathlib.Core.Path.{◌≡◌, sym, ◌∙◌}
+use mathlib.Core.Path.{◌≡◌, sym, ap, ◌∙◌}
 use lib.ListN.{length, get_or}
 use lib.Ieee.{nan}
 use native.Mathlib.Omega.{arith}
@@ -16,7 +16,7 @@ loop-i-preserved c =
     let at = c.loop-i in
     let A = c.args in
     let I = at.invariant in
-    let passed : above A.x (get_or A.sorted.now at.i nan) ≡ false = c.if-not-sorted-i.false in
+    let passed : above A.x (get_or A.sorted.now at.i nan) ≡ false = ap not c.if-not-sorted-i.false in
     (I.0, omega arith, look_on _ _ _ _ _ I.0 c.if-i-n.false passed I.2)
 
 pub returns-then-i-n : goal.returns-then-i-n
@@ -30,5 +30,5 @@ returns-then-not-sorted-i c =
     let at = c.loop-i in
     let A = c.args in
     let I = at.invariant in
-    let above : above A.x (get_or A.sorted.now at.i nan) ≡ true = c.if-not-sorted-i.true in
+    let above : above A.x (get_or A.sorted.now at.i nan) ≡ true = ap not c.if-not-sorted-i.true in
     look_hit _ _ _ _ _ I.0 c.if-i-n.false above I.2

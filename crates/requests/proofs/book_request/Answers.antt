@@ -4,9 +4,9 @@ use Rattle.wording.specs.Requests.{book_request}
 use borrow.Author.Rules.{rules}
 use Rattle.requests.proofs.book_request.Goals as goal
 
-pub returns : goal.returns
+pub returns-then-is : goal.returns-then-is
 unfolding book_request
-returns c = simp (c.float_of-then-is.ensures, c.float_of.ensures, sym c.is.ensures ∙ c.if-is.true)
+returns-then-is c = simp (c.float_of-then-is.ensures, c.float_of.ensures, sym c.is.ensures ∙ c.if-is.true)
 
 pub returns-then-is-2 : goal.returns-then-is-2
 unfolding book_request

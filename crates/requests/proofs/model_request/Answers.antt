@@ -5,9 +5,9 @@ use Rattle.wording.specs.Requests.{model_request}
 use borrow.Author.Rules.{rules}
 use Rattle.requests.proofs.model_request.Goals as goal
 
-pub returns : goal.returns
+pub returns-then-x-gt1 : goal.returns-then-x-gt1
 unfolding model_request
-returns c = simp (lt-ltb _ _ c.if-x-gt1.true)
+returns-then-x-gt1 c = simp (lt-ltb _ _ c.if-x-gt1.true)
 
 pub returns-then-is : goal.returns-then-is
 unfolding model_request

@@ -3,9 +3,9 @@ use mathlib.Core.Path.{sym, ◌∙◌}
 use Rattle.wording.specs.Requests.{request_of}
 use Rattle.requests.proofs.request_of.Goals as goal
 
-pub returns : goal.returns
+pub returns-then-is : goal.returns-then-is
 unfolding request_of
-returns c = simp (c.offered.ensures, sym c.is.ensures ∙ c.if-is.true)
+returns-then-is c = simp (c.offered.ensures, sym c.is.ensures ∙ c.if-is.true)
 
 pub returns-then-is-2 : goal.returns-then-is-2
 unfolding request_of

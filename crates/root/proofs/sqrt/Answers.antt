@@ -93,8 +93,8 @@ module _ (t m : ℕ) (lo : 4503599627370496 ≤ t) (hi : t + 1 < 180143985094819
 both : (v r : Float) → T (fits binary64 v) → r ≡ sqrt v → SquareRoot v r
 both v r f e = record { equals = e; nearest = λ (p : T (positive v)). subst (λ (x : Float). NearestRoot v x) (sym e) (nearest_root v f p) }
 
-pub returns : goal.returns
-returns c =
+pub returns-then-v : goal.returns-then-v
+returns-then-v c =
     let held : T (fits binary64 c.args.v) = subst T (sym c.well_formed.0.1) tt in
     both c.args.v c.args.v held
     (at_nan c.args.v (differs_from_itself c.args.v (subst T (sym c.if-v.true) tt)))

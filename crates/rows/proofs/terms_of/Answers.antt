@@ -2,8 +2,8 @@
 use borrow.Author.Rules.{rules}
 use Rattle.rows.proofs.terms_of.Goals as goal
 
-pub returns : goal.returns
-returns c = simp (c.if-is_price.true, c.kind_of.ensures)
+pub returns-then-is_price : goal.returns-then-is_price
+returns-then-is_price c = simp (c.if-is_price.true, c.kind_of.ensures)
 
 pub returns : goal.returns
 returns c = simp c.if-is_price.false

@@ -6,9 +6,9 @@ use Rattle.slips.proofs.Starts.{asked, unpriced}
 use borrow.Author.Rules.{rules}
 use Rattle.slips.proofs.ends_words.Goals as goal
 
-pub returns : goal.returns
+pub returns-in_default : goal.returns-in_default
 unfolding ends_words
-returns c = simp (unpriced _ _ c.in-Ask.keys2 c.start-asked.ensures)
+returns-in_default c = simp (unpriced _ _ c.in-Ask.keys2 c.start-asked.ensures)
 
 pub returns : goal.returns
 unfolding ends_words value_words outcome fresh

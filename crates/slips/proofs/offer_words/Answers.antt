@@ -8,7 +8,7 @@ pub returns : goal.returns
 unfolding offer_words numbers_of evidence_of
 returns c =
     simp (
-      c.Numbers-of.ensures,
+      c.numbers_of-n.ensures,
       c.evidence_of-x.ensures,
       c.bits_of.ensures,
       c.bits_of-2.ensures,

@@ -23,9 +23,9 @@ held s error h = go (is_unusable s) refl
     go true e = absurd (h (at_21 e))
     go false e = usable s e
 
-pub returns : goal.returns
+pub returns-then-number-eq21 : goal.returns-then-number-eq21
 unfolding outcome feed
-returns c = simp (sym c.feed_number-number.ensures ∙ c.if-number-eq21.true)
+returns-then-number-eq21 c = simp (sym c.feed_number-number.ensures ∙ c.if-number-eq21.true)
 
 pub overflow_add-n : goal.overflow_add-n
 overflow_add-n c = omega (arith, (held c.args.s _ (λ e. c.if-number-eq21.false (c.feed_number-number.ensures ∙ e))).evaluations)

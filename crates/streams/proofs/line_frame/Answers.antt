@@ -7,8 +7,8 @@ use lib.Seq.{length-take-le}
 use Rattle.hexlines.proofs.Parts.{over_full}
 use Rattle.streams.proofs.line_frame.Goals as goal
 
-pub returns : goal.returns
-returns c =
+pub returns-then-n-gt50 : goal.returns-then-n-gt50
+returns-then-n-gt50 c =
     let l = c.args.line in
     let k : length l.bytes ≡ 51 = search rules in
     sym (over_full l.bytes l.seen k c.if-n-gt50.true)

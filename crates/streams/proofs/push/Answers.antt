@@ -4,9 +4,9 @@ use borrow.Author.Tests.{lt-ltb, le-ltb}
 use Rattle.hexlines.specs.Lines.{pushed}
 use Rattle.streams.proofs.push.Goals as goal
 
-pub returns : goal.returns
+pub returns-then-n-lt51 : goal.returns-then-n-lt51
 unfolding pushed
-returns c = simp (lt-ltb _ _ c.if-n-lt51.true)
+returns-then-n-lt51 c = simp (lt-ltb _ _ c.if-n-lt51.true)
 
 pub returns : goal.returns
 unfolding pushed

@@ -7,8 +7,8 @@ use Rattle.hexlines.proofs.Taking.{taken_feed, taken_on, taken_end}
 use borrow.Author.Rules.{rules}
 use Rattle.streams.proofs.take_line.Goals as goal
 
-pub returns : goal.returns
-returns c =
+pub returns-then-b-eq10 : goal.returns-then-b-eq10
+returns-then-b-eq10 c =
     let l = c.loop-i in
     taken_feed l.l c.args.bytes.now l.i c.loop-i-test.true c.if-b-eq10.true ∙ l.invariant
 

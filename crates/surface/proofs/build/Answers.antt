@@ -12,11 +12,11 @@ use Rattle.surface.proofs.build.Goals as goal
 pub prepare-p-requires : goal.prepare-p-requires
 prepare-p-requires c = (refl, refl)
 
-pub returns : goal.returns
+pub returns-then-number-ne0 : goal.returns-then-number-ne0
 unfolding is_small
-returns c =
+returns-then-number-ne0 c =
     let lent : Columns = columns_of c.args.strikes.now c.args.expiries.now c.args.volatilities.now in
-    let into : Buffers = buffers_of c.args.strike_axis.now c.args.expiry-axis.now c.args.grid.now c.args.counts.now in
+    let into : Buffers = buffers_of c.args.strike_axis.now c.args.expiry_axis.now c.args.grid.now c.args.counts.now in
     let checked : refusal lent c.args.count into ≡ c.prepare-p.result.number = told lent c.args.count into _ c.is_small_lem.ensures ∙ sym c.prepare-p.ensures.checked in
     refused_by _ _ _ _ checked c.if-number-ne0.true
 
@@ -44,12 +44,12 @@ pub write-requires : goal.write-requires
 unfolding is_small
 write-requires c =
     let lent : Columns = columns_of c.args.strikes.now c.args.expiries.now c.args.volatilities.now in
-    let into : Buffers = buffers_of c.args.strike_axis.now c.args.expiry-axis.now c.args.grid.now c.args.counts.now in
+    let into : Buffers = buffers_of c.args.strike_axis.now c.args.expiry_axis.now c.args.grid.now c.args.counts.now in
     let checked : refusal lent c.args.count into ≡ c.prepare-p.result.number = told lent c.args.count into _ c.is_small_lem.ensures ∙ sym c.prepare-p.ensures.checked in
     record {
-      unchecked = checked ∙ c.if-number-ne0.left;
-      strikes = c.prepare-p.ensures.strikes c.if-number-ne0.left;
-      expiries = c.prepare-p.ensures.expiries c.if-number-ne0.left;
+      unchecked = checked ∙ c.if-number-ne0.false;
+      strikes = c.prepare-p.ensures.strikes c.if-number-ne0.false;
+      expiries = c.prepare-p.ensures.expiries c.if-number-ne0.false;
     }
 
 pub shape_of-strike_axis : goal.shape_of-strike_axis
@@ -68,9 +68,9 @@ pub returns : goal.returns
 unfolding is_small
 returns c =
     let lent : Columns = columns_of c.args.strikes.now c.args.expiries.now c.args.volatilities.now in
-    let into : Buffers = buffers_of c.args.strike_axis.now c.args.expiry-axis.now c.args.grid.now c.args.counts.now in
+    let into : Buffers = buffers_of c.args.strike_axis.now c.args.expiry_axis.now c.args.grid.now c.args.counts.now in
     let checked : refusal lent c.args.count into ≡ c.prepare-p.result.number = told lent c.args.count into _ c.is_small_lem.ensures ∙ sym c.prepare-p.ensures.checked in
     let axes-in : let p = c.prepare-p in (p.result.columns ≤ length p.last.0) × (p.result.rows ≤ length p.last.1.0) = c.prepare-p.ensures.long in
     let P = c.prepare-p.ensures in
-    let z = c.if-number-ne0.left in
+    let z = c.if-number-ne0.false in
     done_by _ _ _ _ _ _ (checked ∙ z) (made_size _ _ _ axes-in.0 (P.strikes z)) (made_size _ _ _ axes-in.1 (P.expiries z)) c.write.ensures

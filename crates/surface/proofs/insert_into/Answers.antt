@@ -19,8 +19,8 @@ stands-requires c =
     let h : A.n ≤ length A.a.now = omega (arith, c.requires.0) in
     (le_trans (place_most A.a.now A.n _ A.x h c.first_above-p.ensures) h, c.requires.2)
 
-pub returns : goal.returns
-returns c =
+pub returns-then-stands : goal.returns-then-stands
+returns-then-stands c =
     let A = c.args in
     let F = c.first_above-p in
     let h : A.n ≤ length A.a.now = omega (arith, c.requires.0) in

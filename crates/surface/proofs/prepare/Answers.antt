@@ -10,8 +10,8 @@ use borrow.Author.Rules.{rules}
 use native.Mathlib.Omega.{arith}
 use Rattle.surface.proofs.prepare.Goals as goal
 
-pub returns : goal.returns
-returns c =
+pub returns-then-number-ne0 : goal.returns-then-number-ne0
+returns-then-number-ne0 c =
     let lent : Columns = columns_of c.args.strikes.now c.args.expiries.now c.args.volatilities.now in
     record {
       checked = told_early lent c.args.kept c.args.small _ _ c.build_number-number.ensures c.if-number-ne0.true;

@@ -5,8 +5,8 @@ use native.Mathlib.Omega.{arith}
 use borrow.Author.Rules.{rules}
 use Rattle.surface.proofs.stands.Goals as goal
 
-pub returns : goal.returns
-returns c h = absurd (true≢false (sym h))
+pub returns-then-p-eq0 : goal.returns-then-p-eq0
+returns-then-p-eq0 c h = absurd (true≢false (sym h))
 
 pub returns : goal.returns
 returns c h = (omega arith, c.same.ensures h)

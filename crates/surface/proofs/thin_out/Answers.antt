@@ -8,9 +8,9 @@ use lib.Ieee.{of_bits, round}
 use native.Mathlib.Omega.{arith}
 use Rattle.surface.proofs.thin_out.Goals as goal
 
-pub returns : goal.returns
+pub returns-then-n-eq0 : goal.returns-then-n-eq0
 unfolding thinned
-returns c = (rw c.if-n-eq0.true, omega arith)
+returns-then-n-eq0 c = (rw c.if-n-eq0.true, omega arith)
 
 pub loop-i-init : goal.loop-i-init
 loop-i-init c =

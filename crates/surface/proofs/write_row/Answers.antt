@@ -9,8 +9,8 @@ use lib.Ieee.{Float, nan}
 use native.Mathlib.Omega.{arith}
 use Rattle.surface.proofs.write_row.Goals as goal
 
-pub returns : goal.returns
-returns c = no_values _ c.args.row.now c.if-n-eq0.true
+pub returns-then-n-eq0 : goal.returns-then-n-eq0
+returns-then-n-eq0 c = no_values _ c.args.row.now c.if-n-eq0.true
 
 pub first_counted-requires : goal.first_counted-requires
 first_counted-requires c = c.requires.1

@@ -20,8 +20,8 @@ refuse-requires c =
     let a = c.args in
     λ h. let w = counted a.short a.b a.o (subst (λ (z : ℕ). 3 < z) c.offer_number-number.ensures h) in (w.sound, w.room_to_hear)
 
-pub returns : goal.returns
-returns c =
+pub returns-then-number-ne0 : goal.returns-then-number-ne0
+returns-then-number-ne0 c =
     let a = c.args in
     rw (by_check bsm a.short a.b a.o _ c.offer_number-number.ensures c.if-number-ne0.true) at c.refuse.ensures
 

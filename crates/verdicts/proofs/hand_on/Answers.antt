@@ -12,8 +12,8 @@ use Rattle.verdicts.proofs.Solver.{not_refused}
 use borrow.Author.Rules.{rules}
 use Rattle.verdicts.proofs.hand_on.Goals as goal
 
-pub returns : goal.returns
-returns c = absurd (not_refused c.args.answer c.in-Refused.keys2 c.requires.2)
+pub returns-in_default : goal.returns-in_default
+returns-in_default c = absurd (not_refused c.args.answer c.in-Refused.keys2 c.requires.2)
 
 pub turned-requires : goal.turned-requires
 unfolding outcome_of_implied zeros

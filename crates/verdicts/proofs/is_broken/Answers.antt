@@ -8,9 +8,9 @@ use Rattle.ledger.specs.Book.{is_broken}
 use borrow.Author.Rules.{rules}
 use Rattle.verdicts.proofs.is_broken.Goals as goal
 
-pub returns : goal.returns
+pub returns-then-b-gt1024 : goal.returns-then-b-gt1024
 unfolding is_broken
-returns c = simp (lt-ltb _ _ c.if-b-gt1024.true)
+returns-then-b-gt1024 c = simp (lt-ltb _ _ c.if-b-gt1024.true)
 
 pub returns-then-b-gt60000 : goal.returns-then-b-gt60000
 unfolding is_broken

@@ -8,9 +8,9 @@ use Rattle.ledger.specs.Book.{book_after}
 use Rattle.ledger.proofs.Sound.{bounds_of}
 use Rattle.verdicts.proofs.refuse.Goals as goal
 
-pub returns : goal.returns
+pub returns-then-number-le3 : goal.returns-then-number-le3
 unfolding outcome_of_implied book_after
-returns c = record { outcome = refl; book = simp (le-leb _ _ c.if-number-le3.true) }
+returns-then-number-le3 c = record { outcome = refl; book = simp (le-leb _ _ c.if-number-le3.true) }
 
 pub turned-requires : goal.turned-requires
 turned-requires c =
