@@ -104,7 +104,7 @@ price_answer : (p : OptionParams) → PriceAnswer p (pricing p)
 unfolding pricing answered
 price_answer p =
     by_model p (λ (n : ℕ). PriceAnswer p (answered n (decimal 0 1) (price p)))
-    (λ n m. rw (model_some m) (PriceAnswer.Turned-down m refl)) (λ i t. PriceAnswer.priced i t)
+    (λ n m. rw (model_some m) (PriceAnswer.turned_down m refl)) (λ i t. PriceAnswer.priced i t)
 
 blank : Blank no_greeks
 blank = record { delta = refl; gamma = refl; theta = refl; vega = refl; rho = refl; vanna = refl; volga = refl }
@@ -113,7 +113,7 @@ greeks_answer : (p : OptionParams) → GreeksAnswer p (sensitivities p)
 unfolding sensitivities answered
 greeks_answer p =
     by_model p (λ (n : ℕ). GreeksAnswer p (answered n no_greeks (greeks p)))
-    (λ n m. rw (model_some m) (GreeksAnswer.Turned-down m blank)) (λ i t. GreeksAnswer.found i t)
+    (λ n m. rw (model_some m) (GreeksAnswer.turned_down m blank)) (λ i t. GreeksAnswer.found i t)
 
 implied_answer : (market : Float) (p : OptionParams) → ImpliedAnswer market p (implied market p)
 unfolding implied
@@ -121,11 +121,11 @@ implied_answer market p =
     by_implied market p
     (λ (n : ℕ). ImpliedAnswer market p
     (if eqb n none then (run_with market (λ v. price (at_volatility p v))).reply else ended (refused n (zeros 0)) over))
-    (λ n m. rw (implied_some m) (ImpliedAnswer.Turned-down m ((theorem.claim).blank 0))) (λ t i. ImpliedAnswer.solved t i)
+    (λ n m. rw (implied_some m) (ImpliedAnswer.turned_down m ((theorem.claim).blank 0))) (λ t i. ImpliedAnswer.solved t i)
 
 implied_blank : (market : Float) (p : OptionParams) (r : Reply) → ImpliedAnswer market p r → (k : ℕ) (y : Solution) (s : Solver) → r ≡ ended (refused k y) s
     → brent.Blank y.evaluations y
-implied_blank market p r (ImpliedAnswer.Turned-down {n} {x} m b) k y s e =
+implied_blank market p r (ImpliedAnswer.turned_down {n} {x} m b) k y s e =
     let same : x ≡ y = cc in
     subst (λ (z : Solution). brent.Blank z.evaluations z) same
     (record { volatility = b.volatility; error = b.error; c = b.c; c_error = b.c_error; evaluations = refl })

@@ -4,10 +4,8 @@ use Prim.Native.Nat.{◌-◌, ◌≤◌}
 use borrow.Author.Rules.{rules}
 use Rattle.blotter.proofs.say_cells.Given as goal
 
--- TODO params ['ok', 'grid', 'counts', 'strikes', 'expiries', 'good₀', 'at₀', 't9', 'good', 'at'] ['l.ok', 'l.grid', 'l.counts', 'l.strikes', 'l.expiries', 'l.initial.good', 'l.initial.at', 'l.good', 'l.at']
-abbrev invariant-loop : tie.invariant-loop
-invariant-loop ok grid counts strikes expiries good₀ at₀ t9 good at = at ≤ 2048
+abbrev pub invariant-loop-at : goal.invariant-loop-at
+invariant-loop-at l = l.at ≤ 2048
 
--- TODO params ['ok', 'grid', 'counts', 'strikes', 'expiries', 'good₀', 'at₀', 't9', 'good', 'at'] ['l.ok', 'l.grid', 'l.counts', 'l.strikes', 'l.expiries', 'l.initial.good', 'l.initial.at', 'l.good', 'l.at']
-abbrev decreases-loop : tie.decreases-loop
-decreases-loop ok grid counts strikes expiries good₀ at₀ t9 good at = 2048 - at
+abbrev pub decreases-loop-at : goal.decreases-loop-at
+decreases-loop-at l = 2048 - l.at

@@ -10,15 +10,11 @@ use Rattle.desk.specs.Served.{Served}
 use Rattle.desk.proofs.Turns.{at_first, and_then}
 use Rattle.desk.proofs.serve.Given as goal
 
--- TODO params ['input₀', 'strikes₀', 'expiries₀', 'volatilities₀', 'out₀', 't₀', 'turns₀', 'input', 'strikes', 'expiries', 'volatilities', 'out', 't', 'turns'] ['l.stdin', 'l.initial.input', 'l.initial.strikes', 'l.initial.expiries', 'l.initial.volatilities', 'l.initial.out', 'l.initial.t', 'l.initial.turns', 'l.input', 'l.strikes', 'l.expiries', 'l.volatilities', 'l.out', 'l.t', 'l.turns']
-abbrev invariant-loop : tie.invariant-loop
-invariant-loop input₀ strikes₀ expiries₀ volatilities₀ out₀ t₀ turns₀ input strikes expiries volatilities out t turns =
-    (length input ≡ length input₀) × (length strikes ≡ length strikes₀) × (length expiries ≡ length expiries₀)
-    × (length volatilities ≡ length volatilities₀) × (length out ≡ length out₀)
-    × Served (length input₀) (holds fresh (columns_of strikes₀ expiries₀ volatilities₀) out₀)
-    (holds t.state (columns_of strikes expiries volatilities) out) t.more
+abbrev pub invariant-loop-turns : goal.invariant-loop-turns
+invariant-loop-turns l = (length l.input ≡ length l.initial.input) × (length l.strikes ≡ length l.initial.strikes) × (length l.expiries ≡ length l.initial.expiries)
+    × (length l.volatilities ≡ length l.initial.volatilities) × (length l.out ≡ length l.initial.out)
+    × Served (length l.initial.input) (holds fresh (columns_of l.initial.strikes l.initial.expiries l.initial.volatilities) l.initial.out)
+    (holds l.t.state (columns_of l.strikes l.expiries l.volatilities) l.out) l.t.more
 
--- TODO params ['input₀', 'strikes₀', 'expiries₀', 'volatilities₀', 'out₀', 't₀', 'turns₀', 'input', 'strikes', 'expiries', 'volatilities', 'out', 't', 'turns'] ['l.stdin', 'l.initial.input', 'l.initial.strikes', 'l.initial.expiries', 'l.initial.volatilities', 'l.initial.out', 'l.initial.t', 'l.initial.turns', 'l.input', 'l.strikes', 'l.expiries', 'l.volatilities', 'l.out', 'l.t', 'l.turns']
-abbrev decreases-loop : tie.decreases-loop
-decreases-loop input₀ strikes₀ expiries₀ volatilities₀ out₀ t₀ turns₀ input strikes expiries volatilities out t turns =
-    turns
+abbrev pub decreases-loop-turns : goal.decreases-loop-turns
+decreases-loop-turns l = l.turns

@@ -2,10 +2,8 @@
 use borrow.Author.Rules.{rules}
 use Rattle.frames_test.proofs.main.Given as goal
 
--- TODO params ['t₀', 'turns₀', 't', 'turns'] ['l.rt', 'l.initial.t', 'l.initial.turns', 'l.t', 'l.turns']
-abbrev invariant-loop : tie.invariant-loop
-invariant-loop t₀ turns₀ t turns = Unit {0}
+abbrev pub invariant-loop-turns : goal.invariant-loop-turns
+invariant-loop-turns l = Unit {0}
 
--- TODO params ['t₀', 'turns₀', 't', 'turns'] ['l.rt', 'l.initial.t', 'l.initial.turns', 'l.t', 'l.turns']
-abbrev decreases-loop : tie.decreases-loop
-decreases-loop t₀ turns₀ t turns = turns
+abbrev pub decreases-loop-turns : goal.decreases-loop-turns
+decreases-loop-turns l = l.turns

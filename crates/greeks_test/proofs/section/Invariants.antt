@@ -8,10 +8,8 @@ use lib.Dec.{eqb}
 use mir.Val.{bool_byte}
 use Rattle.greeks_test.proofs.section.Given as goal
 
--- TODO params ['right₀', 'wrong₀', 'turns₀', 't5', 't6', 'right', 'wrong', 'turns'] ['l.initial.right', 'l.initial.wrong', 'l.initial.turns', 'l.right', 'l.wrong', 'l.turns']
-abbrev invariant-loop : tie.invariant-loop
-invariant-loop right₀ wrong₀ turns₀ t5 t6 right wrong turns = (turns ≤ 100000) × (right ≤ turns) × (wrong ≤ turns)
+abbrev pub invariant-loop-turns : goal.invariant-loop-turns
+invariant-loop-turns l = (l.turns ≤ 100000) × (l.right ≤ l.turns) × (l.wrong ≤ l.turns)
 
--- TODO params ['right₀', 'wrong₀', 'turns₀', 't5', 't6', 'right', 'wrong', 'turns'] ['l.initial.right', 'l.initial.wrong', 'l.initial.turns', 'l.right', 'l.wrong', 'l.turns']
-abbrev decreases-loop : tie.decreases-loop
-decreases-loop right₀ wrong₀ turns₀ t5 t6 right wrong turns = 100000 - turns
+abbrev pub decreases-loop-turns : goal.decreases-loop-turns
+decreases-loop-turns l = 100000 - l.turns

@@ -17,27 +17,27 @@ unfolding is_small
 returns-then-number-ne0 c =
     let lent : Columns = columns_of c.args.strikes.now c.args.expiries.now c.args.volatilities.now in
     let into : Buffers = buffers_of c.args.strike_axis.now c.args.expiry_axis.now c.args.grid.now c.args.counts.now in
-    let checked : refusal lent c.args.count into ≡ c.prepare-p.result.number = told lent c.args.count into _ c.is_small_lem.ensures ∙ sym c.prepare-p.ensures.checked in
+    let checked : refusal lent c.args.count into ≡ c.prepare-p.result.number = told lent c.args.count into _ c.is_small-small.ensures ∙ sym c.prepare-p.ensures.checked in
     refused_by _ _ _ _ checked c.if-number-ne0.true
 
 pub slice_bounds-ks-end : goal.slice_bounds-ks-end
 slice_bounds-ks-end c =
-    let axes-in : let p = c.prepare-p in (p.result.columns ≤ length p.last.0) × (p.result.rows ≤ length p.last.1.0) = c.prepare-p.ensures.long in
+    let axes-in : let p = c.prepare-p in (p.result.columns ≤ length p.new.ks) × (p.result.rows ≤ length p.new.ts) = c.prepare-p.ensures.long in
     axes-in.0
 
 pub slice_bounds-write-end : goal.slice_bounds-write-end
 slice_bounds-write-end c =
-    let axes-in : let p = c.prepare-p in (p.result.columns ≤ length p.last.0) × (p.result.rows ≤ length p.last.1.0) = c.prepare-p.ensures.long in
+    let axes-in : let p = c.prepare-p in (p.result.columns ≤ length p.new.ks) × (p.result.rows ≤ length p.new.ts) = c.prepare-p.ensures.long in
     sym (length-take-le _ _ axes-in.0)
 
 pub slice_bounds-ts-end : goal.slice_bounds-ts-end
 slice_bounds-ts-end c =
-    let axes-in : let p = c.prepare-p in (p.result.columns ≤ length p.last.0) × (p.result.rows ≤ length p.last.1.0) = c.prepare-p.ensures.long in
+    let axes-in : let p = c.prepare-p in (p.result.columns ≤ length p.new.ks) × (p.result.rows ≤ length p.new.ts) = c.prepare-p.ensures.long in
     axes-in.1
 
 pub slice_bounds-write-end-2 : goal.slice_bounds-write-end-2
 slice_bounds-write-end-2 c =
-    let axes-in : let p = c.prepare-p in (p.result.columns ≤ length p.last.0) × (p.result.rows ≤ length p.last.1.0) = c.prepare-p.ensures.long in
+    let axes-in : let p = c.prepare-p in (p.result.columns ≤ length p.new.ks) × (p.result.rows ≤ length p.new.ts) = c.prepare-p.ensures.long in
     sym (length-take-le _ _ axes-in.1)
 
 pub write-requires : goal.write-requires
@@ -45,7 +45,7 @@ unfolding is_small
 write-requires c =
     let lent : Columns = columns_of c.args.strikes.now c.args.expiries.now c.args.volatilities.now in
     let into : Buffers = buffers_of c.args.strike_axis.now c.args.expiry_axis.now c.args.grid.now c.args.counts.now in
-    let checked : refusal lent c.args.count into ≡ c.prepare-p.result.number = told lent c.args.count into _ c.is_small_lem.ensures ∙ sym c.prepare-p.ensures.checked in
+    let checked : refusal lent c.args.count into ≡ c.prepare-p.result.number = told lent c.args.count into _ c.is_small-small.ensures ∙ sym c.prepare-p.ensures.checked in
     record {
       unchecked = checked ∙ c.if-number-ne0.false;
       strikes = c.prepare-p.ensures.strikes c.if-number-ne0.false;
@@ -53,24 +53,24 @@ write-requires c =
     }
 
 pub shape_of-strike_axis : goal.shape_of-strike_axis
-shape_of-strike_axis c = c.write.auto.0
+shape_of-strike_axis c = c.write.auto.strike_axis
 
 pub shape_of-expiry_axis : goal.shape_of-expiry_axis
-shape_of-expiry_axis c = c.write.auto.1.0
+shape_of-expiry_axis c = c.write.auto.expiry_axis
 
 pub shape_of-grid : goal.shape_of-grid
-shape_of-grid c = c.write.auto.1.1.0
+shape_of-grid c = c.write.auto.grid
 
 pub shape_of-counts : goal.shape_of-counts
-shape_of-counts c = c.write.auto.1.1.1.0
+shape_of-counts c = c.write.auto.counts
 
 pub returns : goal.returns
 unfolding is_small
 returns c =
     let lent : Columns = columns_of c.args.strikes.now c.args.expiries.now c.args.volatilities.now in
     let into : Buffers = buffers_of c.args.strike_axis.now c.args.expiry_axis.now c.args.grid.now c.args.counts.now in
-    let checked : refusal lent c.args.count into ≡ c.prepare-p.result.number = told lent c.args.count into _ c.is_small_lem.ensures ∙ sym c.prepare-p.ensures.checked in
-    let axes-in : let p = c.prepare-p in (p.result.columns ≤ length p.last.0) × (p.result.rows ≤ length p.last.1.0) = c.prepare-p.ensures.long in
+    let checked : refusal lent c.args.count into ≡ c.prepare-p.result.number = told lent c.args.count into _ c.is_small-small.ensures ∙ sym c.prepare-p.ensures.checked in
+    let axes-in : let p = c.prepare-p in (p.result.columns ≤ length p.new.ks) × (p.result.rows ≤ length p.new.ts) = c.prepare-p.ensures.long in
     let P = c.prepare-p.ensures in
     let z = c.if-number-ne0.false in
     done_by _ _ _ _ _ _ (checked ∙ z) (made_size _ _ _ axes-in.0 (P.strikes z)) (made_size _ _ _ axes-in.1 (P.expiries z)) c.write.ensures

@@ -61,7 +61,7 @@ loop-r-preserved c =
     let A = c.args in
     let N = A.numbers.now in (
       omega (arith, c.loop-r-test.true),
-      same_len_mid (64 * at.r) (64 * at.r + A.columns - 64 * at.r) at.counts F.new.0 F.auto.0 ∙ I.1,
+      same_len_mid (64 * at.r) (64 * at.r + A.columns - 64 * at.r) at.counts F.new.row F.auto.row ∙ I.1,
       table_step (λ w i k. get_or N (cell_at i k) 0) _ _ _ _ _ _ row.width inside I.2 F.ensures,
     )
 

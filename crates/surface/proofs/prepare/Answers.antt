@@ -47,8 +47,8 @@ returns c =
     let S = P.0 in
     let hk = K.ensures.0 ∙ strikes_made S in
     let ht = T.ensures.0 ∙ expiries_made S in
-    let lk : K.result ≤ length K.new.0 = omega (arith, K.ensures.1, K.auto.0, S.few, c.requires.0) in
-    let lt : T.result ≤ length T.new.0 = omega (arith, T.ensures.1, T.auto.0, S.few, c.requires.1) in
+    let lk : K.result ≤ length K.new.a = omega (arith, K.ensures.1, K.auto.a, S.few, c.requires.0) in
+    let lt : T.result ≤ length T.new.a = omega (arith, T.ensures.1, T.auto.a, S.few, c.requires.1) in
     record {
       checked = c.axes_number.ensures ∙ rw (← made_size _ _ _ lk hk, ← made_size _ _ _ lt ht) (P.1 _);
       strikes = λ e. hk;

@@ -21,8 +21,8 @@ loop-i-preserved c =
     let F = c.insert_into-kept in
     let L = c.loop-i in
     let A = c.args in
-    let s = sort_step (take L.auto L.a) A.xs.now L.i A.n c.loop-i-test.true c.requires.1 in
-    (omega arith, omega (arith, F.ensures.0), omega arith, F.auto.0 ∙ L.invariant.3, F.ensures.1, rw (F.ensures.2, s) L.invariant.5)
+    let s = sort_step (take L.kept L.a) A.xs.now L.i A.n c.loop-i-test.true c.requires.1 in
+    (omega arith, omega (arith, F.ensures.0), omega arith, F.auto.a ∙ L.invariant.3, F.ensures.1, rw (F.ensures.2, s) L.invariant.5)
 
 pub shape_of-a : goal.shape_of-a
 shape_of-a c = c.loop-i.invariant.3
@@ -30,5 +30,5 @@ shape_of-a c = c.loop-i.invariant.3
 pub returns : goal.returns
 returns c =
     let L = c.loop-i in
-    let e = sort_end (take L.auto L.a) c.args.xs.now L.i c.args.n c.loop-i-test.false c.requires.1 in
+    let e = sort_end (take L.kept L.a) c.args.xs.now L.i c.args.n c.loop-i-test.false c.requires.1 in
     (rw e at L.invariant.5, omega arith)

@@ -38,4 +38,4 @@ pub returns : goal.returns
 returns c =
     let I = c.loop-i.invariant in
     let l : c.args.n ≤ length c.loop-i.a = omega arith in
-    (sym (thin_end c.loop-i.a _ _ c.loop-i.auto c.loop-i.last c.loop-i-test.false l) ∙ I.3, omega arith)
+    (sym (thin_end c.loop-i.a _ _ c.loop-i.kept c.loop-i.last c.loop-i-test.false l) ∙ I.3, omega arith)

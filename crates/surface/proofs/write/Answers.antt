@@ -7,7 +7,7 @@ pub fill_cells-requires : goal.fill_cells-requires
 fill_cells-requires c =
     let P = fitting c.requires in
     let S = P.sound in
-    ((P.long_grid, P.long_counts, narrow c.requires, low c.requires), ((S.few, S.strikes, S.expiries, S.volatilities), made_placed c.requires))
+    record { in_bounds = (P.long_grid, P.long_counts, narrow c.requires, low c.requires); n_bound = (S.few, S.strikes, S.expiries, S.volatilities); on_axes = made_placed c.requires }
 
 pub copy_front-requires : goal.copy_front-requires
 copy_front-requires c =
@@ -18,16 +18,16 @@ copy_front-requires-2 c =
     omega (arith, low c.requires, (fitting c.requires).long_expiries)
 
 pub shape_of-strike_axis : goal.shape_of-strike_axis
-shape_of-strike_axis c = c.copy_front.auto.0
+shape_of-strike_axis c = c.copy_front.auto.dst
 
 pub shape_of-expiry_axis : goal.shape_of-expiry_axis
-shape_of-expiry_axis c = c.copy_front-2.auto.0
+shape_of-expiry_axis c = c.copy_front-2.auto.dst
 
 pub shape_of-grid : goal.shape_of-grid
-shape_of-grid c = c.fill_cells.auto.0
+shape_of-grid c = c.fill_cells.auto.grid
 
 pub shape_of-counts : goal.shape_of-counts
-shape_of-counts c = c.fill_cells.auto.1.0
+shape_of-counts c = c.fill_cells.auto.counts
 
 pub returns : goal.returns
 returns c =

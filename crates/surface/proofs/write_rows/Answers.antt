@@ -64,7 +64,7 @@ loop-i-preserved c =
     let S = A.sums.now in
     let N = A.numbers.now in (
       omega (arith, c.loop-i-test.true),
-      same_len_mid (64 * at.i) (64 * at.i + A.columns - 64 * at.i) at.grid F.new.0 F.auto.0 ∙ I.1,
+      same_len_mid (64 * at.i) (64 * at.i + A.columns - 64 * at.i) at.grid F.new.row F.auto.row ∙ I.1,
       table_step (λ w r. held (λ k. get_or S (cell_at r k) nan) (λ k. get_or N (cell_at r k) 0) w) _ _ _ _ _ _ row.width inside I.2 F.ensures,
     )
 
