@@ -1,12 +1,8 @@
 -- The loop that feeds a solver the prices of a function is brent's run on them, a price at a time. Assumes nothing.
 use mathlib.Core.Path.{◌≡◌, refl, sym, ap, ◌∙◌, subst}
-use mathlib.Core.Logic.{◌⊎◌, inl, inr}
-use mathlib.Core.List.{[], ◌∷◌}
 use Prim.Native.Nat.{ℕ, zero, suc, ◌-◌, ◌<◌, ◌≤◌}
 use native.Mathlib.Nat.{lt_irrefl, not-suc-le-zero}
 use native.Mathlib.Omega.{arith}
-use types.Run.{OneOf}
-use denote.Enum.Declared.{tag_of}
 use lib.Ieee.{Float}
 use Rattle.brent.specs.declared.Solver.{Solver}
 use Rattle.brent.specs.declared.Answer.{Answer}
@@ -15,20 +11,15 @@ use Rattle.brent.specs.declared.Solution.{Solution}
 use Rattle.brent.specs.Outcome.{outcome}
 use Rattle.brent.specs.Feed.{feed, over}
 use Rattle.brent.specs.Run.{feed_with, run_with}
-use Rattle.brent.specs.contracts.Answer.{the_type}
 use Rattle.brent.proofs.Theorem.{claim}
 use Rattle.blackscholes.specs.Implied.{Closed, outcome_of_implied, replied}
 use Rattle.blackscholes.specs.declared.Implied.TheVariants as Implied
 
-neither : (◌≡◌ {A = ℕ} 0 1) ⊎ (◌≡◌ {A = ℕ} 0 2) → ⊥
-neither (inl e) = omega arith
-neither (inr e) = omega arith
-
 -- a solver that asks nothing rests
-pub rests : (n : ℕ) (price : Float → Float) (a : Answer) → OneOf (1 ∷ 2 ∷ []) (tag_of the_type a) → (feed_with n price (outcome a)).reply ≡ outcome a
+pub rests : (n : ℕ) (price : Float → Float) (a : Answer) → ((v : Float) (s : Solver) → a ≡ Ask v s → ⊥) → (feed_with n price (outcome a)).reply ≡ outcome a
 unfolding feed_with outcome
 rests zero price a h = refl
-rests (suc n) price (Ask v s) h = absurd (neither h)
+rests (suc n) price (Ask v s) h = absurd (h v s refl)
 rests (suc n) price (Found x s) h = refl
 rests (suc n) price (Refused j k s) h = refl
 

@@ -1,12 +1,8 @@
 -- What the reply to a start says of the market price: a solver that asks has one, and its two ends; one that does not ask has none. Assumes nothing.
 use mathlib.Core.Path.{◌≡◌, refl}
-use mathlib.Core.Logic.{◌⊎◌, inl, inr}
 use mathlib.Core.Bool.{Bool, true, false}
-use mathlib.Core.List.{[], ◌∷◌}
 use Prim.Native.Nat.{ℕ}
 use native.Mathlib.Omega.{arith}
-use types.Run.{OneOf}
-use denote.Enum.Declared.{tag_of}
 use lib.Ieee.{Float}
 use Rattle.floats.specs.Operators.{if◌then◌else◌}
 use Rattle.limits.specs.Ranges.{is_price, lowest_volatility}
@@ -17,7 +13,6 @@ use Rattle.brent.specs.declared.Answer.{Answer}
 use Rattle.brent.specs.declared.Answer.TheVariants.{Ask, Found, Refused}
 use Rattle.brent.specs.Outcome.{Reply, asking, ended, outcome}
 use Rattle.brent.specs.Feed.{start, fresh, refuse}
-use Rattle.brent.specs.contracts.Answer.{the_type}
 
 pub record Asked (m v : Float) (s : Solver) : Type 0 where
   pub price : is_price m ≡ true
@@ -42,12 +37,8 @@ pub asked : (m v : Float) (s : Solver) → asking v s ≡ start m → Asked m v 
 unfolding start
 asked m v s e = let a = asks (is_price m) m v s e in record { price = a.0; first = a.1; state = a.2 }
 
-neither : (◌≡◌ {A = ℕ} 0 1) ⊎ (◌≡◌ {A = ℕ} 0 2) → ⊥
-neither (inl e) = omega arith
-neither (inr e) = omega arith
-
-pub unpriced : (m : Float) (a : Answer) → OneOf (1 ∷ 2 ∷ []) (tag_of the_type a) → outcome a ≡ start m → is_price m ≡ false
+pub unpriced : (m : Float) (a : Answer) → ((v : Float) (s : Solver) → a ≡ Ask v s → ⊥) → outcome a ≡ start m → is_price m ≡ false
 unfolding outcome start
-unpriced m (Ask v s) h e = absurd (neither h)
+unpriced m (Ask v s) h e = absurd (h v s refl)
 unpriced m (Found x s) h e = rests (is_price m) m _ s e
 unpriced m (Refused j k s) h e = rests (is_price m) m _ s e

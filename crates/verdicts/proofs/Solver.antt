@@ -4,8 +4,6 @@ use mathlib.Core.Bool.{Bool, true, false, not}
 use mathlib.Core.List.{[], ◌∷◌}
 use Prim.Native.Nat.{ℕ}
 use native.Mathlib.Omega.{arith}
-use types.Run.{OneOf}
-use denote.Enum.Declared.{tag_of}
 use borrow.Author.Tests.{not-false}
 use lib.Ieee.{Float}
 use Rattle.floats.specs.Operators.{decimal}
@@ -19,8 +17,8 @@ use Rattle.blackscholes.specs.Implied.{implied_refusal, implied, outcome_of_impl
 use Rattle.blackscholes.specs.declared.OptionType.{OptionType}
 use Rattle.blackscholes.specs.declared.OptionParams.{OptionParams}
 use Rattle.blackscholes.specs.declared.Implied.{Implied}
+use Rattle.brent.specs.declared.Solution.{Solution}
 use Rattle.blackscholes.specs.declared.Implied.TheVariants.{Found, Refused}
-use Rattle.blackscholes.specs.contracts.Implied.{the_type}
 use Rattle.ledger.specs.Model.{bsm, prices_of}
 use Rattle.ledger.specs.Book.{opening_of, is_broken, own_refusal, answer_to, answer, end_of}
 use Rattle.ledger.specs.Calls.{Ended, Turned, Solves}
@@ -81,15 +79,12 @@ solved b o kind market v r p h n e =
     record { outcome = rw p t; ended = subst Ended (sym t) (run_ended market prices) }
 
 -- ---- an answer that is not Found
-neither : ◌≡◌ {A = ℕ} 0 1 → ⊥
-neither e = omega arith
-
-pub not_found : (a : Implied) → OneOf (1 ∷ []) (tag_of the_type a) → Ended (outcome_of_implied a) → Turned (outcome_of_implied a)
+pub not_found : (a : Implied) → ((x : Solution) → a ≡ Found x → ⊥) → Ended (outcome_of_implied a) → Turned (outcome_of_implied a)
 unfolding outcome_of_implied
-not_found (Found x) h e = absurd (neither h)
+not_found (Found x) h e = absurd (h x refl)
 not_found (Refused k n) h e = e
 
-pub not_refused : (a : Implied) → OneOf (0 ∷ []) (tag_of the_type a) → Turned (outcome_of_implied a) → ⊥
+pub not_refused : (a : Implied) → ((k n : ℕ) → a ≡ Refused k n → ⊥) → Turned (outcome_of_implied a) → ⊥
 unfolding outcome_of_implied
 not_refused (Found x) h t = t
-not_refused (Refused k n) h t = neither (sym h)
+not_refused (Refused k n) h t = h k n refl

@@ -9,9 +9,9 @@ d1d2-d-requires c = c.requires
 pub returns-in-Call : goal.returns-in-Call
 unfolding price discount
 returns-in-Call c =
-    simp (c.enum_told-1.given.1, c.cdf_pair-n.ensures, c.d1d2-d.ensures, c.requires.discount)
+    simp (c.in-Call.is, c.cdf_pair-n.ensures, c.d1d2-d.ensures, c.requires.discount)
 
 pub returns-in-Put : goal.returns-in-Put
 unfolding price discount
 returns-in-Put c =
-    simp (c.enum_told-in-Put-1.given.1, c.cdf_pair-n-in-Put.ensures, c.d1d2-d.ensures, c.requires.discount)
+    simp (c.in-Put.is, c.cdf_pair-n-in-Put.ensures, c.d1d2-d.ensures, c.requires.discount)

@@ -21,14 +21,14 @@ pub last-requires : goal.last-requires
 last-requires c =
     let at = c.loop-left in
     let args = c.args in
-    let e = sym (rests at.left (price_at args.q) at.answer c.in-Ask.keys2) ∙ at.invariant in
+    let e = sym (rests at.left (price_at args.q) at.answer c.in_default.not-Ask) ∙ at.invariant in
     subst Closed (sym e) (run_closed args.market (price_at args.q))
 
 pub returns-in_default : goal.returns-in_default
 returns-in_default c =
     let at = c.loop-left in
     let args = c.args in
-    c.last.ensures ∙ sym (rests at.left (price_at args.q) at.answer c.in-Ask.keys2) ∙ at.invariant
+    c.last.ensures ∙ sym (rests at.left (price_at args.q) at.answer c.in_default.not-Ask) ∙ at.invariant
 
 pub price_at-requires : goal.price_at-requires
 price_at-requires c = c.requires
@@ -36,7 +36,7 @@ price_at-requires c = c.requires
 pub loop-left-preserved : goal.loop-left-preserved
 loop-left-preserved c =
     again c.loop-left.left (price_at c.args.q) c.loop-left.answer _ _ c.price_at.result c.feed-answer.result
-    c.loop-left-test.true c.answer-1.given.1 c.price_at.ensures
+    c.loop-left-test.true c.in-Ask.is c.price_at.ensures
     c.feed-answer.ensures
     ∙ c.loop-left.invariant
 

@@ -13,11 +13,11 @@ returns-then-is_broken c = money_broken _ _ _ _ _ _ _ (sym c.is_broken.ensures �
 pub returns-in-Value : goal.returns-in-Value
 returns-in-Value c =
     let sound : is_broken c.args.book ≡ false = sym c.is_broken.ensures ∙ c.if-is_broken.false in
-    let read = ap read_outcome (sym c.read-1.given.1) ∙ c.interpolate-read.ensures in
+    let read = ap read_outcome (sym c.in-Value.is) ∙ c.interpolate-read.ensures in
     money_value _ _ _ _ _ _ _ _ sound c.nearest_strike-strike.ensures _ read
 
 pub returns-in-Refused : goal.returns-in-Refused
 returns-in-Refused c =
     let sound : is_broken c.args.book ≡ false = sym c.is_broken.ensures ∙ c.if-is_broken.false in
-    let read = ap read_outcome (sym c.read-in-Refused-1.given.1) ∙ c.interpolate-read.ensures in
+    let read = ap read_outcome (sym c.in-Refused.is) ∙ c.interpolate-read.ensures in
     money_refused _ _ _ _ _ _ _ _ sound c.nearest_strike-strike.ensures _ _ read

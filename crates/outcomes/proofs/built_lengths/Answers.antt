@@ -5,8 +5,8 @@ use Rattle.outcomes.proofs.built_lengths.Goals as goal
 
 pub returns-in-Surface : goal.returns-in-Surface
 unfolding lengths_of
-returns-in-Surface c = simp c.built-1.given.1
+returns-in-Surface c = simp c.in-Surface.is
 
 pub returns-in-Refused : goal.returns-in-Refused
 unfolding lengths_of
-returns-in-Refused c = simp c.enum_told-1.given.1
+returns-in-Refused c = simp c.in-Refused.is

@@ -3,7 +3,7 @@ use borrow.Author.Rules.{rules}
 use Rattle.outcomes.proofs.built_number.Goals as goal
 
 pub returns-in-Surface : goal.returns-in-Surface
-returns-in-Surface c = simp c.enum_told-1.given.1
+returns-in-Surface c = simp c.in-Surface.is
 
 pub returns-in-Refused : goal.returns-in-Refused
-returns-in-Refused c = simp c.built-1.given.1
+returns-in-Refused c = simp c.in-Refused.is

@@ -5,8 +5,8 @@ use Rattle.outcomes.proofs.built_of.Goals as goal
 
 pub returns-in-Refused : goal.returns-in-Refused
 unfolding built_of
-returns-in-Refused c = simp c.tray-1.given.1
+returns-in-Refused c = simp c.in-Refused.is
 
 pub returns-in-Quoted : goal.returns-in-Quoted
 unfolding built_of
-returns-in-Quoted c = simp c.tray-in-Quoted-1.given.1
+returns-in-Quoted c = simp c.in-Quoted.is

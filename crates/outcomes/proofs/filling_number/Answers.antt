@@ -3,7 +3,7 @@ use borrow.Author.Rules.{rules}
 use Rattle.outcomes.proofs.filling_number.Goals as goal
 
 pub returns-in-Done : goal.returns-in-Done
-returns-in-Done c = simp c.enum_told-1.given.1
+returns-in-Done c = simp c.in-Done.is
 
 pub returns-in-Refused : goal.returns-in-Refused
-returns-in-Refused c = simp c.answer-1.given.1
+returns-in-Refused c = simp c.in-Refused.is

@@ -5,8 +5,8 @@ use Rattle.outcomes.proofs.greeks_values.Goals as goal
 
 pub returns-in-Found : goal.returns-in-Found
 unfolding outcome_of_greeks
-returns-in-Found c = simp c.answer-1.given.1
+returns-in-Found c = simp c.in-Found.is
 
 pub returns-in-Refused : goal.returns-in-Refused
 unfolding outcome_of_greeks
-returns-in-Refused c = simp (c.no_greeks.ensures, c.enum_told-1.given.1)
+returns-in-Refused c = simp (c.no_greeks.ensures, c.in-Refused.is)

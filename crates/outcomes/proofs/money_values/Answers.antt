@@ -5,8 +5,8 @@ use Rattle.outcomes.proofs.money_values.Goals as goal
 
 pub returns-in-Value : goal.returns-in-Value
 unfolding round of_bits
-returns-in-Value c = simp c.answer-1.given.1
+returns-in-Value c = simp c.in-Value.is
 
 pub returns-in-Refused : goal.returns-in-Refused
 unfolding round of_bits
-returns-in-Refused c = simp c.enum_told-1.given.1
+returns-in-Refused c = simp c.in-Refused.is

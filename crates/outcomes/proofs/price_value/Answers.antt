@@ -6,8 +6,8 @@ use Rattle.outcomes.proofs.price_value.Goals as goal
 
 pub returns-in-Price : goal.returns-in-Price
 unfolding outcome_of_price round of_bits
-returns-in-Price c = simp c.answer-1.given.1
+returns-in-Price c = simp c.in-Price.is
 
 pub returns-in-Refused : goal.returns-in-Refused
 unfolding outcome_of_price round of_bits
-returns-in-Refused c = simp c.enum_told-1.given.1
+returns-in-Refused c = simp c.in-Refused.is

@@ -3,7 +3,7 @@ use borrow.Author.Rules.{rules}
 use Rattle.outcomes.proofs.reading_number.Goals as goal
 
 pub returns-in-Value : goal.returns-in-Value
-returns-in-Value c = simp c.enum_told-1.given.1
+returns-in-Value c = simp c.in-Value.is
 
 pub returns-in-Refused : goal.returns-in-Refused
-returns-in-Refused c = simp c.answer-1.given.1
+returns-in-Refused c = simp c.in-Refused.is

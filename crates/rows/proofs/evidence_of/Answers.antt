@@ -8,8 +8,8 @@ use Rattle.rows.proofs.evidence_of.Goals as goal
 
 pub returns-in-Found : goal.returns-in-Found
 unfolding evidence_of outcome_of_implied
-returns-in-Found c = rw c.answer-1.given.1
+returns-in-Found c = rw c.in-Found.is
 
 pub returns-in-Refused : goal.returns-in-Refused
 unfolding evidence_of outcome_of_implied zeros of_bits round
-returns-in-Refused c = rw c.enum_told-1.given.1
+returns-in-Refused c = rw c.in-Refused.is

@@ -5,8 +5,8 @@ use Rattle.slips.proofs.build_words.Goals as goal
 
 pub returns-in-Surface : goal.returns-in-Surface
 unfolding build_words
-returns-in-Surface c = rw c.answer-1.given.1
+returns-in-Surface c = rw c.in-Surface.is
 
 pub returns-in-Refused : goal.returns-in-Refused
 unfolding build_words
-returns-in-Refused c = rw c.answer-in-Refused-1.given.1
+returns-in-Refused c = rw c.in-Refused.is

@@ -8,12 +8,12 @@ use Rattle.slips.proofs.ends_words.Goals as goal
 
 pub returns-in_default : goal.returns-in_default
 unfolding ends_words
-returns-in_default c = simp (unpriced _ _ c.in-Ask.keys2 c.start-asked.ensures)
+returns-in_default c = simp (unpriced _ _ c.in_default.not-Ask c.start-asked.ensures)
 
 pub returns : goal.returns
 unfolding ends_words value_words outcome fresh
 returns c =
-    let a = asked _ _ _ (rw c.asked-1.given.1 at c.start-asked.ensures) in
+    let a = asked _ _ _ (rw c.in-Ask.is at c.start-asked.ensures) in
     simp (
       c.price_words-high.ensures,
       c.at_volatility-2.ensures,

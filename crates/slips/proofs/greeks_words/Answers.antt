@@ -11,7 +11,7 @@ unfolding greeks_words outcome_of_greeks
 returns-in-Found c =
     simp (
       sym c.bsm_greeks-answer.ensures,
-      c.answer-1.given.1,
+      c.in-Found.is,
       c.bits_of.ensures,
       c.bits_of-in-Found.ensures,
       c.bits_of-in-Found-2.ensures,
@@ -23,4 +23,4 @@ returns-in-Found c =
 
 pub returns-in-Refused : goal.returns-in-Refused
 unfolding greeks_words outcome_of_greeks to_bits round
-returns-in-Refused c = simp (sym c.bsm_greeks-answer.ensures, c.answer-in-Refused-1.given.1)
+returns-in-Refused c = simp (sym c.bsm_greeks-answer.ensures, c.in-Refused.is)

@@ -8,8 +8,8 @@ use Rattle.slips.proofs.price_words.Goals as goal
 
 pub returns-in-Price : goal.returns-in-Price
 unfolding value_words outcome_of_price
-returns-in-Price c = simp (sym c.bsm_price-answer.ensures, c.answer-1.given.1, c.bits_of.ensures)
+returns-in-Price c = simp (sym c.bsm_price-answer.ensures, c.in-Price.is, c.bits_of.ensures)
 
 pub returns-in-Refused : goal.returns-in-Refused
 unfolding value_words outcome_of_price to_bits round
-returns-in-Refused c = simp (sym c.bsm_price-answer.ensures, c.answer-in-Refused-1.given.1)
+returns-in-Refused c = simp (sym c.bsm_price-answer.ensures, c.in-Refused.is)

@@ -7,9 +7,9 @@ use Rattle.verdicts.proofs.answer.Goals as goal
 
 pub returns-in-Volatility : goal.returns-in-Volatility
 unfolding outcome_of_implied of_bits round
-returns-in-Volatility c = let a = c.args in itself a.b a.o _ c.terms-1.given.1
+returns-in-Volatility c = let a = c.args in itself a.b a.o _ c.in-Volatility.is
 
 pub returns-in-Price : goal.returns-in-Price
 returns-in-Price c =
     let a = c.args in
-    solved a.b a.o _ _ _ c.implied_volatility.result c.terms-in-Price-1.given.1 c.requires.0 c.requires.1 c.implied_volatility.ensures
+    solved a.b a.o _ _ _ c.implied_volatility.result c.in-Price.is c.requires.0 c.requires.1 c.implied_volatility.ensures

@@ -36,7 +36,7 @@ hand_on-requires c =
     let none-holds : let a = c.args in offer_refusal a.short a.b a.o ≡ none = sym c.offer_number-number.ensures ∙ c.if-number-ne0.false in
     let passed : let a = c.args in AllPass a.short a.b a.o = let a = c.args in all_pass a.short a.b a.o none-holds in
     let w = passed in
-    (w.entry.sound, w.entry.room_to_hear, not_found c.answer-answer.result c.in-Found.keys2 c.answer-answer.ensures.ended)
+    (w.entry.sound, w.entry.room_to_hear, not_found c.answer-answer.result c.in_default.not-Found c.answer-answer.ensures.ended)
 
 pub returns-in_default : goal.returns-in_default
 returns-in_default c =
@@ -51,7 +51,7 @@ kept-requires c =
     let passed : let a = c.args in AllPass a.short a.b a.o = let a = c.args in all_pass a.short a.b a.o none-holds in
     let w = passed in
     let h = bounds_of c.args.b w.entry.sound in
-    let k = subst (λ (x : Implied). Ended (outcome_of_implied x)) c.answer-1.given.1 c.answer-answer.ensures.ended in
+    let k = subst (λ (x : Implied). Ended (outcome_of_implied x)) c.in-Found.is c.answer-answer.ensures.ended in
     (w.place, w.entry.room_to_hear, omega (arith, k))
 
 pub returns : goal.returns
@@ -59,5 +59,5 @@ unfolding outcome_of_implied book_after
 returns c =
     let none-holds : let a = c.args in offer_refusal a.short a.b a.o ≡ none = sym c.offer_number-number.ensures ∙ c.if-number-ne0.false in
     let settled : let a = c.args in outcome_of_implied c.answer-answer.result ≡ offer_outcome bsm a.short a.b a.o = let a = c.args in c.answer-answer.ensures.outcome ∙ by_terms bsm a.short a.b a.o none-holds in
-    let t = ap outcome_of_implied (sym c.answer-1.given.1) ∙ settled in
+    let t = ap outcome_of_implied (sym c.in-Found.is) ∙ settled in
     record { outcome = t; book = c.kept.ensures ∙ ap (book_after c.args.b) t }

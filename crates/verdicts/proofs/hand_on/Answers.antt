@@ -13,19 +13,19 @@ use borrow.Author.Rules.{rules}
 use Rattle.verdicts.proofs.hand_on.Goals as goal
 
 pub returns-in_default : goal.returns-in_default
-returns-in_default c = absurd (not_refused c.args.answer c.in-Refused.keys2 c.requires.2)
+returns-in_default c = absurd (not_refused c.args.answer c.in_default.not-Refused c.requires.2)
 
 pub turned-requires : goal.turned-requires
 unfolding outcome_of_implied zeros
 turned-requires c =
     let a = c.args in
     let h = bounds_of a.b c.requires.0 in
-    let t = subst (λ (x : Implied). Turned (outcome_of_implied x)) c.answer-1.given.1 c.requires.2 in
+    let t = subst (λ (x : Implied). Turned (outcome_of_implied x)) c.in-Refused.is c.requires.2 in
     (omega arith, c.requires.1, omega (arith, t.1))
 
 pub returns : goal.returns
 unfolding outcome_of_implied book_after zeros
 returns c =
-    let t = subst (λ (x : Implied). Turned (outcome_of_implied x)) c.answer-1.given.1 c.requires.2 in
-    let same = c.answer-1.given.1 in
+    let t = subst (λ (x : Implied). Turned (outcome_of_implied x)) c.in-Refused.is c.requires.2 in
+    let same = c.in-Refused.is in
     record { outcome = ap outcome_of_implied (sym same); book = simp (same, lt-leb _ 3 t.0) c.turned.ensures }
