@@ -16,73 +16,17 @@ pub loop-i-init : goal.loop-i-init
 loop-i-init c =
     (omega arith, c.requires.0, c.requires.1, c.requires.2, c.requires.3, refl, refl, at_first _, begins _ _ _ _ _)
 
-pub bounds-kinds-i : goal.bounds-kinds-i
-bounds-kinds-i c =
-    let inside : let at = c.loop-i in let a = c.args in
-    (at.i < a.n) × (a.n ≤ length a.kinds.now) × (a.n ≤ length a.figures.now) × (a.n ≤ length at.numbers) × (a.n ≤ length at.evidence) = let v = c.loop-i.invariant in (c.loop-i-test.true, v.1, v.2, v.3, v.4) in
-    let p = inside in omega (arith, p.0, p.1)
-
-pub bounds-figures-i : goal.bounds-figures-i
-bounds-figures-i c =
-    let inside : let at = c.loop-i in let a = c.args in
-    (at.i < a.n) × (a.n ≤ length a.kinds.now) × (a.n ≤ length a.figures.now) × (a.n ≤ length at.numbers) × (a.n ≤ length at.evidence) = let v = c.loop-i.invariant in (c.loop-i-test.true, v.1, v.2, v.3, v.4) in
-    let p = inside in omega (arith, p.0, p.2)
-
-pub offset_bounds-numbers-i : goal.offset_bounds-numbers-i
-offset_bounds-numbers-i c =
-    let inside : let at = c.loop-i in let a = c.args in
-    (at.i < a.n) × (a.n ≤ length a.kinds.now) × (a.n ≤ length a.figures.now) × (a.n ≤ length at.numbers) × (a.n ≤ length at.evidence) = let v = c.loop-i.invariant in (c.loop-i-test.true, v.1, v.2, v.3, v.4) in
-    let p = inside in
-    let l = c.loop-i.invariant.5 in
-    let g = c.well_formed in
-    omega (arith, p.0, p.3, l, g)
-
-pub bounds-numbers-i : goal.bounds-numbers-i
-bounds-numbers-i c =
-    let inside : let at = c.loop-i in let a = c.args in
-    (at.i < a.n) × (a.n ≤ length a.kinds.now) × (a.n ≤ length a.figures.now) × (a.n ≤ length at.numbers) × (a.n ≤ length at.evidence) = let v = c.loop-i.invariant in (c.loop-i-test.true, v.1, v.2, v.3, v.4) in
-    let p = inside in omega (arith, p.0, p.3)
-
-pub offset_bounds-evidence-i : goal.offset_bounds-evidence-i
-offset_bounds-evidence-i c =
-    let inside : let at = c.loop-i in let a = c.args in
-    (at.i < a.n) × (a.n ≤ length a.kinds.now) × (a.n ≤ length a.figures.now) × (a.n ≤ length at.numbers) × (a.n ≤ length at.evidence) = let v = c.loop-i.invariant in (c.loop-i-test.true, v.1, v.2, v.3, v.4) in
-    let p = inside in
-    let l = c.loop-i.invariant.6 in
-    let g = c.well_formed in
-    omega (arith, p.0, p.4, l, g)
-
-pub bounds-evidence-i : goal.bounds-evidence-i
-bounds-evidence-i c =
-    let inside : let at = c.loop-i in let a = c.args in
-    (at.i < a.n) × (a.n ≤ length a.kinds.now) × (a.n ≤ length a.figures.now) × (a.n ≤ length at.numbers) × (a.n ≤ length at.evidence) = let v = c.loop-i.invariant in (c.loop-i-test.true, v.1, v.2, v.3, v.4) in
-    let p = inside in omega (arith, p.0, p.4)
-
-pub overflow_add-i : goal.overflow_add-i
-overflow_add-i c =
-    let inside : let at = c.loop-i in let a = c.args in
-    (at.i < a.n) × (a.n ≤ length a.kinds.now) × (a.n ≤ length a.figures.now) × (a.n ≤ length at.numbers) × (a.n ≤ length at.evidence) = let v = c.loop-i.invariant in (c.loop-i-test.true, v.1, v.2, v.3, v.4) in
-    omega (arith, inside.0, c.fits)
-
-pub loop-i-smaller : goal.loop-i-smaller
-loop-i-smaller c =
-    let inside : let at = c.loop-i in let a = c.args in
-    (at.i < a.n) × (a.n ≤ length a.kinds.now) × (a.n ≤ length a.figures.now) × (a.n ≤ length at.numbers) × (a.n ≤ length at.evidence) = let v = c.loop-i.invariant in (c.loop-i-test.true, v.1, v.2, v.3, v.4) in
-    omega (arith, inside.0)
-
 pub loop-i-preserved : goal.loop-i-preserved
 loop-i-preserved c =
-    let inside : let at = c.loop-i in let a = c.args in
-    (at.i < a.n) × (a.n ≤ length a.kinds.now) × (a.n ≤ length a.figures.now) × (a.n ≤ length at.numbers) × (a.n ≤ length at.evidence) = let v = c.loop-i.invariant in (c.loop-i-test.true, v.1, v.2, v.3, v.4) in
-    let p = inside in
+    let v = c.loop-i.invariant in
+    let turned : c.loop-i.i < c.args.n = c.loop-i-test.true in
     let at = c.loop-i in
-    let v = at.inv in
     let a = c.args in
     let C = columns_of at.strikes at.expiries at.volatilities in
     let O = c.offer-heard in
     let o = c.offer_of in
-    let q = o.ensures ∙ read_offer a.kinds.now a.figures.now at.i _ _ (omega (arith, p.0, p.1)) (omega (arith, p.0, p.2)) in (
-      omega (arith, p.0),
+    let q = o.ensures ∙ read_offer a.kinds.now a.figures.now at.i _ _ (omega (arith, turned, v.1)) (omega (arith, turned, v.2)) in (
+      omega (arith, turned),
       v.1,
       v.2,
       simp length-set v.3,
@@ -92,7 +36,7 @@ loop-i-preserved c =
       offer_lengths bsm at.b _ C o.result O.result _ O.ensures v.7,
       turn a.kinds.now a.figures.now a.n at.i (record { book = at.b; columns = C }) o.result
           (answers at.numbers at.evidence) _ _ O.result _ _ _
-          p.0 q O.ensures c.numbers_of-counted.ensures c.evidence_of-shown.ensures v.8,
+          turned q O.ensures c.numbers_of-counted.ensures c.evidence_of-shown.ensures v.8,
     )
 
 pub shape_of-numbers : goal.shape_of-numbers

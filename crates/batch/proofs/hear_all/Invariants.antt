@@ -17,10 +17,10 @@ abbrev pub invariant-loop-i : goal.invariant-loop-i
 invariant-loop-i l = (l.i ≤ l.n) × (l.n ≤ length l.kinds) × (l.n ≤ length l.figures) × (l.n ≤ length l.numbers) × (l.n ≤ length l.evidence)
     × (length l.numbers ≡ length l.initial.numbers) × (length l.evidence ≡ length l.initial.evidence)
     × SameLengths (columns_of l.initial.strikes l.initial.expiries l.initial.volatilities) (columns_of l.strikes l.expiries l.volatilities)
-    × (let l : Ledger = record { book = l.initial.b; columns = columns_of l.initial.strikes l.initial.expiries l.initial.volatilities } in
+    × (let entry : Ledger = record { book = l.initial.b; columns = columns_of l.initial.strikes l.initial.expiries l.initial.volatilities } in
     let os = offers l.kinds l.figures l.n in
     Going l.kinds l.figures l.n l.i (record { book = l.b; columns = columns_of l.strikes l.expiries l.volatilities }) (answers l.numbers l.evidence)
-    (after (hear bsm) l os) (handed_out 0 (along (hear bsm) (reply bsm) l os) (answers l.initial.numbers l.initial.evidence)))
+    (after (hear bsm) entry os) (handed_out 0 (along (hear bsm) (reply bsm) entry os) (answers l.initial.numbers l.initial.evidence)))
 
 abbrev pub decreases-loop-i : goal.decreases-loop-i
 decreases-loop-i l = l.n - l.i

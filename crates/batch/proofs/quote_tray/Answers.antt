@@ -16,10 +16,10 @@ returns-in-Refused c =
     let L : Lent =
     let a = c.args in
     lent (answers a.numbers.now a.evidence.now) (columns_of a.strikes.now a.expiries.now a.volatilities.now)
-    (buffers_of a.strike_axis.now a.expiry-axis.now a.grid.now a.counts.now) in
+    (buffers_of a.strike_axis.now a.expiry_axis.now a.grid.now a.counts.now) in
     let os : List Offer = let a = c.args in heard_offers a.kinds.now a.figures.now L.answers in
     let on : Opening = let a = c.args in record { spot = a.spot; rate = a.rate } in
-    shut_tray on os L _ _ (ap outcome_of_opening (sym c.opened-1.given.1) ∙ c.«open».ensures)
+    shut_tray on os L _ _ (ap outcome_of_opening (sym c.in-Refused.is) ∙ c.open-opened.ensures)
 
 pub returns-in-Fresh : goal.returns-in-Fresh
 unfolding outcome_of_opening
@@ -27,11 +27,11 @@ returns-in-Fresh c =
     let L : Lent =
     let a = c.args in
     lent (answers a.numbers.now a.evidence.now) (columns_of a.strikes.now a.expiries.now a.volatilities.now)
-    (buffers_of a.strike_axis.now a.expiry-axis.now a.grid.now a.counts.now) in
+    (buffers_of a.strike_axis.now a.expiry_axis.now a.grid.now a.counts.now) in
     let os : List Offer = let a = c.args in heard_offers a.kinds.now a.figures.now L.answers in
     let on : Opening = let a = c.args in record { spot = a.spot; rate = a.rate } in
     let l = L in
     let a = c.args in
     quoted_tray on os l.answers l.columns l.buffers _ c.hear_all-after.result _ _ c.build-built.result _
     (offers a.kinds.now a.figures.now c.shortest-n.result) (ap (offers a.kinds.now a.figures.now) c.shortest-n.ensures)
-    (ap outcome_of_opening (sym c.opened-in-Fresh-1.given.1) ∙ c.«open».ensures) c.hear_all-after.ensures c.build-built.ensures
+    (ap outcome_of_opening (sym c.in-Fresh.is) ∙ c.open-opened.ensures) c.hear_all-after.ensures c.build-built.ensures

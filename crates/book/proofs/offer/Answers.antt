@@ -23,8 +23,8 @@ unfolding is_short outcome_of_implied
 file-requires c =
     let C : Columns = let a = c.args in columns_of a.strikes.now a.expiries.now a.volatilities.now in
     let decided : let a = c.args in Replies (offer_outcome bsm (is_short C) a.book a.offer) a.book c.decide-heard.result = rw c.is_short-short.ensures at c.decide-heard.ensures in
-    let solved : done c.answer-1.given.0.0 ≡ offer_outcome bsm (is_short C) c.args.book c.args.offer = ap outcome_of_implied (sym c.answer-1.given.1) ∙ decided.outcome in
-    let k = accepted bsm (is_short C) c.args.book c.args.offer c.answer-1.given.0.0 solved in
+    let solved : done c.in-Found.solution ≡ offer_outcome bsm (is_short C) c.args.book c.args.offer = ap outcome_of_implied (sym c.in-Found.is) ∙ decided.outcome in
+    let k = accepted bsm (is_short C) c.args.book c.args.offer c.in-Found.solution solved in
     within c.args.book.kept C k.entry.long k.place
 
 pub returns : goal.returns
@@ -32,6 +32,6 @@ unfolding columns_after is_short outcome_of_implied
 returns c =
     let C : Columns = let a = c.args in columns_of a.strikes.now a.expiries.now a.volatilities.now in
     let decided : let a = c.args in Replies (offer_outcome bsm (is_short C) a.book a.offer) a.book c.decide-heard.result = rw c.is_short-short.ensures at c.decide-heard.ensures in
-    let solved : done c.answer-1.given.0.0 ≡ offer_outcome bsm (is_short C) c.args.book c.args.offer = ap outcome_of_implied (sym c.answer-1.given.1) ∙ decided.outcome in
+    let solved : done c.in-Found.solution ≡ offer_outcome bsm (is_short C) c.args.book c.args.offer = ap outcome_of_implied (sym c.in-Found.is) ∙ decided.outcome in
     let a = c.args in
     record { replies = decided; columns = c.file.ensures ∙ ap (columns_after a.book C a.offer) solved }

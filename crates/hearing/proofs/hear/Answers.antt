@@ -11,20 +11,20 @@ pub returns-in-Open : goal.returns-in-Open
 unfolding answers
 returns-in-Open c =
     let a = c.args in
-    rw c.asked-1.given.1 (c.open_book.ensures (ledger a.book (columns_of a.strikes.now a.expiries.now a.volatilities.now)))
+    rw c.in-Open.is (c.open_book.ensures (ledger a.book (columns_of a.strikes.now a.expiries.now a.volatilities.now)))
 
 pub returns-in-Quote : goal.returns-in-Quote
 unfolding answers
 returns-in-Quote c =
     let l : Ledger = let a = c.args in ledger a.book (columns_of a.strikes.now a.expiries.now a.volatilities.now) in
-    rw c.asked-in-Quote-1.given.1 (offered l _ c.offer.result _ _ c.offer.ensures c.offered.ensures)
+    rw c.in-Quote.is (offered l _ c.offer.result _ _ c.offer.ensures c.offered.ensures)
 
 pub returns-in-Read : goal.returns-in-Read
 unfolding answers
 returns-in-Read c =
-    rw c.asked-in-Read-1.given.1 c.read_surface.ensures
+    rw c.in-Read.is c.read_surface.ensures
 
 pub returns-in-Nothing : goal.returns-in-Nothing
 unfolding answers of_bits round
 returns-in-Nothing c =
-    rw c.enum_told-1.given.1
+    rw c.in-Nothing.is

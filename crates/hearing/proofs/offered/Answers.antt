@@ -7,8 +7,8 @@ use Rattle.hearing.proofs.offered.Goals as goal
 
 pub returns-in-Found : goal.returns-in-Found
 unfolding said outcome_of_implied
-returns-in-Found c C = rw c.answer-1.given.1
+returns-in-Found c C = rw c.in-Found.is
 
 pub returns-in-Refused : goal.returns-in-Refused
 unfolding said outcome_of_implied of_bits round
-returns-in-Refused c C = rw c.answer-in-Refused-1.given.1
+returns-in-Refused c C = rw c.in-Refused.is

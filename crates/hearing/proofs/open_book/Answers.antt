@@ -10,8 +10,8 @@ use Rattle.hearing.proofs.open_book.Goals as goal
 
 pub returns-in-Fresh : goal.returns-in-Fresh
 unfolding said opens outcome_of_opening of_bits round
-returns-in-Fresh c l = rw (← c.«open».ensures, c.opened-1.given.1)
+returns-in-Fresh c l = rw (← c.open-opened.ensures, c.in-Fresh.is)
 
 pub returns-in-Refused : goal.returns-in-Refused
 unfolding said opens outcome_of_opening of_bits round
-returns-in-Refused c l = rw (← c.«open».ensures, c.opened-in-Refused-1.given.1)
+returns-in-Refused c l = rw (← c.open-opened.ensures, c.in-Refused.is)

@@ -13,11 +13,11 @@ returns-in-Surface c =
     let l : Ledger = let a = c.args in ledger a.book (columns_of a.strikes.now a.expiries.now a.volatilities.now) in
     let a = c.args in
     built_and_read l a.strike a.expiry c.build-built.result _ c.build-built.ensures _ _ c.interpolate.result c.reading_said.result
-    c.built-1.given.1 c.interpolate.ensures c.reading_said.ensures
+    c.in-Surface.is c.interpolate.ensures c.reading_said.ensures
 
 pub returns-in-Refused : goal.returns-in-Refused
 unfolding of_bits round
 returns-in-Refused c =
     let l : Ledger = let a = c.args in ledger a.book (columns_of a.strikes.now a.expiries.now a.volatilities.now) in
     let a = c.args in
-    not_built l a.strike a.expiry c.build-built.result _ c.build-built.ensures _ c.built-in-Refused-1.given.1
+    not_built l a.strike a.expiry c.build-built.result _ c.build-built.ensures _ c.in-Refused.is

@@ -6,8 +6,8 @@ use Rattle.hearing.proofs.reading_said.Goals as goal
 
 pub returns-in-Value : goal.returns-in-Value
 unfolding said
-returns-in-Value c C = rw c.reading-1.given.1
+returns-in-Value c C = rw c.in-Value.is
 
 pub returns-in-Refused : goal.returns-in-Refused
 unfolding said of_bits round
-returns-in-Refused c C = rw c.reading-in-Refused-1.given.1
+returns-in-Refused c C = rw c.in-Refused.is

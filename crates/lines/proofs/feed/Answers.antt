@@ -38,7 +38,7 @@ line_ended-p-requires c =
     let C₀ : Columns = let a = c.args in columns_of a.strikes.now a.expiries.now a.volatilities.now in
     let C : Columns = let l = c.loop-heard in columns_of l.strikes l.expiries l.volatilities in
     let l = c.loop-heard in
-    let v = l.inv in
+    let v = l.invariant in
     let a = c.args in
     let t = c.take_line-t in
     let lines : l.heard < feeds a.chunk.now = omega (arith, v.0, c.loop-heard-test.true) in
@@ -57,12 +57,12 @@ loop-heard-preserved c =
     let C₀ : Columns = let a = c.args in columns_of a.strikes.now a.expiries.now a.volatilities.now in
     let C : Columns = let l = c.loop-heard in columns_of l.strikes l.expiries l.volatilities in
     let l = c.loop-heard in
-    let v = l.inv in
+    let v = l.invariant in
     let a = c.args in
     let t = c.take_line-t in
     let r = c.line_ended-p in
     let lines : l.heard < feeds a.chunk.now = omega (arith, v.0, c.loop-heard-test.true) in
-    let same : SameLengths C (columns_of r.last.1.0 r.last.1.1.0 r.last.1.1.1.0) =
+    let same : SameLengths C (columns_of r.new.strikes r.new.expiries r.new.1.1.1.0) =
     record { strikes = r.kept.1.0; expiries = r.kept.1.1.0; volatilities = r.kept.1.1.1.0 } in (
       v.0,
       v.1,
