@@ -70,10 +70,10 @@ none_heard got input h e =
 
 -- ---- turns one after the other
 
-after_both : (h : Held) (xs ys : List (List ℕ)) → held_after h (xs ++ ys) ≡ held_after (held_after h xs) ys
+after_both : (xs : List (List ℕ)) (h : Held) (ys : List (List ℕ)) → held_after h (xs ++ ys) ≡ held_after (held_after h xs) ys
 unfolding held_after
-after_both h [] ys = refl
-after_both h (x ∷ xs) ys = after_both _ xs ys
+after_both [] h ys = refl
+after_both (x ∷ xs) h ys = after_both xs _ ys
 
 reads_both : (most : ℕ) (xs ys : List (List ℕ)) → Reads most xs → Reads most ys → Reads most (xs ++ ys)
 reads_both most [] ys h k = k
@@ -99,7 +99,7 @@ and_then most h h' h'' more goes size parts t n s g =
     record {
       earlier = before;
       latest = parts;
-      turns = g.turns ∙ ap (λ (z : Held). held_after z parts) s.turns ∙ sym (after_both h before parts);
+      turns = g.turns ∙ ap (λ (z : Held). held_after z parts) s.turns ∙ sym (after_both before h parts);
       gave = reads_both most s.earlier s.latest s.gave (s.reads_on t);
       one = g.one;
       reads_on = λ z. subst (λ (k : ℕ). Reads k parts) n (g.reads_on z).1;

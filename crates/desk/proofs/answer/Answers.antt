@@ -9,16 +9,16 @@ use Rattle.desk.proofs.answer.Goals as goal
 
 pub slice_bounds-hear-end : goal.slice_bounds-hear-end
 slice_bounds-hear-end c =
-    sym (length-take-le _ c.args.input.now (omega (arith, rw c.got-1.given.1 at c.requires.within)))
+    sym (length-take-le _ c.args.input.now (omega (arith, rw c.in-Part.is at c.requires.within)))
 
 pub hear-requires : goal.hear-requires
 hear-requires c =
-    (rw length-take (omega (arith, c.requires.input_in_bounds)), c.requires.in_bounds)
+    record { part_in_bounds = rw length-take (omega (arith, c.requires.input_in_bounds)); in_bounds = c.requires.in_bounds }
 
 pub returns-in-Part : goal.returns-in-Part
 returns-in-Part c =
-    part_heard c.args.got _ c.args.input.now _ _ _ c.got-1.given.1 c.hear.ensures
+    part_heard c.args.got _ c.args.input.now _ _ _ c.in-Part.is c.hear.ensures
 
 pub returns-in-Failed : goal.returns-in-Failed
 returns-in-Failed c =
-    rw c.hold.ensures (none_heard c.args.got c.args.input.now _ c.enum_told-1.given.1)
+    rw c.hold.ensures (none_heard c.args.got c.args.input.now _ c.in-Failed.is)

@@ -4,4 +4,4 @@ use borrow.Author.Rules.{rules}
 use Rattle.desk.proofs.main.Goals as goal
 
 pub serve-requires : goal.serve-requires
-serve-requires c = (omega arith, omega arith)
+serve-requires c = record { input_in_bounds = omega arith; in_bounds = omega arith }

@@ -24,13 +24,13 @@ loop-turns-init c =
 pub answer-t-requires : goal.answer-t-requires
 answer-t-requires c =
     let v = c.loop-turns.invariant in
-    (c.read_part-got.ensures, (omega (arith, c.requires.input_in_bounds, v.0, v.4, c.read_part-got.auto), omega (arith, c.requires.in_bounds, v.4)))
+    record { within = c.read_part-got.ensures; input_in_bounds = omega (arith, c.requires.input_in_bounds, v.0, v.4, c.read_part-got.auto); in_bounds = omega (arith, c.requires.in_bounds, v.4) }
 
 pub loop-turns-preserved : goal.loop-turns-preserved
 loop-turns-preserved c =
     let l = c.loop-turns in
     let kept = c.answer-t.auto in
-    let v = l.inv in
+    let v = l.invariant in
     let a = c.args in
     let first = holds fresh (columns_of a.strikes.now a.expiries.now a.volatilities.now) a.out.now in
     let last = holds l.t.state (columns_of l.strikes l.expiries l.volatilities) l.out in (

@@ -7,4 +7,4 @@ use Rattle.desk.proofs.write_text.Goals as goal
 
 pub slice_bounds-put_out-end : goal.slice_bounds-put_out-end
 slice_bounds-put_out-end c =
-    sym (length-take-le _ c.args.out.now (omega (arith, rw c.text-1.given.1 at c.requires.text_in_bounds)))
+    sym (length-take-le _ c.args.out.now (omega (arith, rw c.in-Written.is at c.requires.text_in_bounds)))

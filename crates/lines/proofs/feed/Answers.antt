@@ -46,9 +46,6 @@ line_ended-p-requires c =
     t.result c.holding.result
     t.ensures c.holding.ensures v.3 lines (omega (arith, v.0, v.1, v.2))
 
-pub overflow_add-heard : goal.overflow_add-heard
-overflow_add-heard c = omega (arith, c.loop-heard-test.true, c.count_lines-lines.ok)
-
 pub loop-heard-smaller : goal.loop-heard-smaller
 loop-heard-smaller c = omega (arith, c.loop-heard-test.true)
 
@@ -62,8 +59,8 @@ loop-heard-preserved c =
     let t = c.take_line-t in
     let r = c.line_ended-p in
     let lines : l.heard < feeds a.chunk.now = omega (arith, v.0, c.loop-heard-test.true) in
-    let same : SameLengths C (columns_of r.new.strikes r.new.expiries r.new.1.1.1.0) =
-    record { strikes = r.kept.1.0; expiries = r.kept.1.1.0; volatilities = r.kept.1.1.1.0 } in (
+    let same : SameLengths C (columns_of r.new.strikes r.new.expiries r.new.volatilities) =
+    record { strikes = r.auto.strikes; expiries = r.auto.expiries; volatilities = r.auto.volatilities } in (
       v.0,
       v.1,
       v.2,
