@@ -26,11 +26,8 @@ use Rattle.blackscholes.specs.Claim.{OfOption, by_6, by_7, by_8, by_9, InRange, 
 use Rattle.blackscholes.specs.Claim.{Blank, PriceAnswer, GreeksAnswer, ImpliedAnswer, Claim}
 use Rattle.blackscholes.specs.declared.OptionParams.{OptionParams}
 use Rattle.blackscholes.specs.declared.Priced.{Priced}
-use Rattle.blackscholes.specs.declared.Priced.TheVariants as Priced
 use Rattle.blackscholes.specs.declared.Sensitivities.{Sensitivities}
-use Rattle.blackscholes.specs.declared.Sensitivities.TheVariants as Sensitivities
 use Rattle.blackscholes.specs.declared.Implied.{Implied}
-use Rattle.blackscholes.specs.declared.Implied.TheVariants as Implied
 
 -- ---- the lines of the chain, one after the other
 module _ (p : OptionParams) (rest : ℕ) where

@@ -9,9 +9,7 @@ use Rattle.blackscholes.specs.Greeks.{greeks}
 use Rattle.blackscholes.specs.declared.OptionParams.{OptionParams}
 use Rattle.blackscholes.specs.declared.Greeks.{Greeks}
 use Rattle.blackscholes.specs.declared.Priced.{Priced}
-use Rattle.blackscholes.specs.declared.Priced.TheVariants as Priced
 use Rattle.blackscholes.specs.declared.Sensitivities.{Sensitivities}
-use Rattle.blackscholes.specs.declared.Sensitivities.TheVariants as Sensitivities
 
 -- 6 to 9: spot, strike, expiry and rate, then what follows.
 unfoldable pub option_refusal : OptionParams → ℕ → ℕ

@@ -4,7 +4,7 @@ use Prim.Native.Nat.{ℕ, zero, suc, ◌+◌, ◌-◌, ◌*◌, ◌/◌, ◌^◌
 use native.Mathlib.Nat.{le_trans, le_of_eq, mul-le-mul_left, mul-le-mul_right, le_of_mul-le-mul_right, div-le_of_le-mul}
 use native.Mathlib.Omega.{arith}
 use mathlib.Core.Bool.{true, false, true≢false}
-use lib.IntN.{pos, negsuc, neg_ℤ}
+use lib.IntN.{pos, neg_ℤ}
 use lib.Dec.{T, lit<, lit≤}
 use lib.Pow.{pow_pos}
 use borrow.Author.Tests.{ltb-true}

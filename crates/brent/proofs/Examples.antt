@@ -8,7 +8,6 @@ use Rattle.floats.specs.Operators.{decimal}
 use Rattle.floats.specs.Values.{magnitude, minimum, negative, copysign}
 use Rattle.limits.specs.Ranges.{is_price, within}
 use Rattle.limits.specs.Checks.{first}
-use Rattle.brent.specs.declared.Points.{Points}
 use Rattle.brent.specs.Brent.{reset, swap, tolerance, middle, converged, turned, by_line, by_parabola, interpolation, tries, accepts, steps, step, advance}
 use Rattle.brent.specs.Feed.{fresh, refuse, ask, find, start, placed, in_range, is_unusable, is_unbracketed, feed_number, feed}
 use Rattle.brent.specs.Run.{feed_all, run}

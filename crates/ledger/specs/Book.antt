@@ -17,7 +17,6 @@ use Rattle.ledger.specs.declared.Offer.{Offer}
 use Rattle.ledger.specs.declared.Terms.{Terms}
 use Rattle.ledger.specs.declared.Terms.TheVariants.{Volatility, Price}
 use Rattle.ledger.specs.declared.Opened.{Opened}
-use Rattle.ledger.specs.declared.Opened.TheVariants as Opened
 
 -- ---- the record, and the columns that are lent
 abbrev pub opening_of : Book → Opening

@@ -12,7 +12,6 @@ use Rattle.blackscholes.specs.declared.OptionParams.{OptionParams}
 use Rattle.blackscholes.specs.declared.Greeks.{Greeks}
 use Rattle.blackscholes.specs.Model.{price}
 use Rattle.chart.specs.declared.Built.{Built}
-use Rattle.chart.specs.declared.Built.TheVariants as Built
 use Rattle.ledger.specs.Model.{Opening, bsm, volatility, priced}
 use Rattle.ledger.specs.declared.Book.{Book}
 use Rattle.ledger.specs.declared.Money.{Money}

@@ -1,6 +1,6 @@
 -- The ranges of checks 5 to 10 from their ends: the last f64 on either side that passes, and the first that does not. Document 01's numbers stand here
 -- a second time, so that a range that is wrong in its definition and in the code alike does not get past them.
-use Rattle.std.specs.Prelude.{ℕ, ◌+◌, ◌-◌, ◌^◌, ◌≡◌, Bool, true, false, Float}
+use Rattle.std.specs.Prelude.{◌+◌, ◌-◌, ◌^◌, ◌≡◌, Bool, true, false, Float}
 use Rattle.std.specs.Float.{nan, inf, binary64}
 use Rattle.std.specs.Float.Ieee.{neg, of_bits, to_bits}
 use Rattle.floats.specs.Operators.{decimal}

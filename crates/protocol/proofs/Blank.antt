@@ -20,7 +20,6 @@ use Rattle.ledger.specs.Claim.{Ledger}
 use Rattle.ledger.specs.declared.Book.{Book}
 use Rattle.hexlines.specs.declared.Frame.TheVariants.{Read}
 use Rattle.protocol.specs.declared.Asked.{Asked}
-use Rattle.protocol.specs.declared.Asked.TheVariants as Asked
 use Rattle.protocol.specs.Hear.{said, blank, read_of, reads, asked_by, answers, hears}
 
 -- Done, or refused by another number than the expiry's.

@@ -28,7 +28,6 @@ use Rattle.ledger.specs.Claim.{Ledger, hear, reply}
 use Rattle.ledger.specs.declared.Book.{Book}
 use Rattle.hexlines.specs.declared.Frame.{Frame}
 use Rattle.protocol.specs.declared.Asked.{Asked}
-use Rattle.protocol.specs.declared.Asked.TheVariants as Asked
 use Rattle.protocol.specs.Claims.{Tabled}
 use Rattle.protocol.specs.Hear.{ledger, said, opens, offers, blank, read_of, reads, asked_by, answers, hears}
 

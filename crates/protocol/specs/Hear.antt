@@ -17,7 +17,6 @@ use Rattle.hexlines.specs.Session.{Told}
 use Rattle.hexlines.specs.declared.Frame.{Frame}
 use Rattle.hexlines.specs.declared.Frame.TheVariants.{Open, Call, Put, Vol, Read, Bad}
 use Rattle.protocol.specs.declared.Asked.{Asked}
-use Rattle.protocol.specs.declared.Asked.TheVariants as Asked
 use Rattle.protocol.specs.declared.Said.{Said}
 
 -- The record and the columns.

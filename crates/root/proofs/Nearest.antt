@@ -15,7 +15,6 @@ use lib.Ieee.Exact.{odd_sign}
 use lib.Ieee.Fits.{odd-fits}
 use lib.Ieee.Positive.{positive, positive_of_value}
 use Rattle.floats.specs.Wholes.{units_of}
-use Rattle.floats.proofs.Whole.{places}
 use Rattle.root.specs.Root.{NearestRoot, sqrt, root_of_units, half_root, whole_root}
 use Rattle.floats.specs.Digits.{Digits, parts_of}
 use Rattle.floats.proofs.Digits.{digits_of, places_lt}

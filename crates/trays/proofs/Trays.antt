@@ -1,7 +1,7 @@
 -- A whole tray: the opening, the list and the build put together, and demand 3's claim of what they leave. Assumes nothing.
 use mathlib.Core.Path.{◌≡◌, sym, ap, ◌∙◌, subst}
 use lib.ListN.{take}
-use mathlib.Core.Bool.{true, false, true≢false}
+use mathlib.Core.Bool.{true≢false}
 use mathlib.Core.List.{List}
 use Prim.Native.Nat.{ℕ}
 use lib.Dec.{eqb}
@@ -20,7 +20,6 @@ use Rattle.trays.specs.Tray.{Answers, Lent, lent, heard, reply_of, tray_reply, l
 use Rattle.ledger.specs.declared.Book.{Book}
 use Rattle.ledger.specs.declared.Offer.{Offer}
 use Rattle.trays.specs.declared.Tray.{Tray}
-use Rattle.trays.specs.declared.Tray.TheVariants as Tray
 use Rattle.ledger.proofs.Demand3.{claim}
 
 -- ---- what an opening's answer tells

@@ -8,7 +8,6 @@ use Rattle.grid.specs.Layout.{values}
 use Rattle.ledger.specs.Model.{Opening, bsm}
 use Rattle.ledger.specs.Book.{Columns, fresh, zero_book, open_refusal, is_short}
 use Rattle.chart.specs.declared.Built.{Built}
-use Rattle.chart.specs.declared.Built.TheVariants as Built
 use Rattle.chart.specs.Build.{Lengths, outcome}
 use Rattle.ledger.specs.Build.{Buffers, build_outcome, buffers_after}
 use Rattle.ledger.specs.Fold.{after, along}
@@ -18,7 +17,6 @@ use Rattle.ledger.specs.Claim.{Ledger, hear, reply, tallied, Agrees, BuildClaim}
 use Rattle.ledger.specs.declared.Book.{Book}
 use Rattle.ledger.specs.declared.Offer.{Offer}
 use Rattle.trays.specs.declared.Tray.{Tray}
-use Rattle.trays.specs.declared.Tray.TheVariants as Tray
 
 -- ---- the offers, each a row of `kinds` and one of `figures`
 -- The first n offers of the slices.

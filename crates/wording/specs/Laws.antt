@@ -1,5 +1,5 @@
 -- What holds of the words, whatever the code does: where each figure of an answer stands, and what each name asks.
-use Rattle.std.specs.Prelude.{ℕ, ◌^◌, ◌≡◌, Bool, true, false, List, [], ◌∷◌, Float}
+use Rattle.std.specs.Prelude.{ℕ, ◌≡◌, true, false, List, [], ◌∷◌, Float}
 use Rattle.std.specs.Float.{binary64}
 use Rattle.std.specs.Float.Ieee.{to_bits, of_bits}
 use Rattle.floats.specs.Operators.{decimal}
@@ -14,7 +14,6 @@ use Rattle.chart.specs.declared.Built.TheVariants as Built
 use Rattle.hexlines.specs.Examples.{bytes}
 use Rattle.ledger.specs.Model.{volatility, priced}
 use Rattle.ledger.specs.Money.{no_money}
-use Rattle.wording.specs.declared.Request.{Request}
 use Rattle.wording.specs.declared.Request.TheVariants.{Open, Offer, Build, Read, Money, Price, Greeks, Ends, Bad}
 use Rattle.wording.specs.Words.{value_words, money_words, offer_words, greeks_words, build_words, cell_words, ends_words}
 use Rattle.wording.specs.Requests.{request_of}

@@ -1,6 +1,5 @@
 -- What a line asks: by its name of six characters and the number of its words.
 use Rattle.std.specs.Prelude.{ℕ, Bool, true, false, ◌&&◌, List, [], ◌∷◌, eqb, ltb, get_or, Float}
-use Prim.Native.String.{String}
 use Rattle.std.specs.Float.{binary64}
 use Rattle.std.specs.Float.Ieee.{of_bits}
 use Rattle.floats.specs.Operators.{if◌then◌else◌}

@@ -4,7 +4,7 @@ use Rattle.std.specs.Float.{binary64}
 use Rattle.std.specs.Float.Ieee.{to_bits}
 use Rattle.floats.specs.Operators.{if◌then◌else◌}
 use Rattle.limits.specs.Ranges.{is_price, lowest_volatility, highest_volatility}
-use Rattle.limits.specs.Outcome.{Outcome, done, refused, number_of, values_of}
+use Rattle.limits.specs.Outcome.{Outcome, number_of, values_of}
 use Rattle.brent.specs.declared.Solution.{Solution}
 use Rattle.blackscholes.specs.declared.Greeks.{Greeks}
 use Rattle.blackscholes.specs.declared.OptionParams.{OptionParams}
@@ -12,7 +12,6 @@ use Rattle.blackscholes.specs.Model.{at_volatility}
 use Rattle.blackscholes.specs.Checks.{pricing}
 use Rattle.ledger.specs.declared.Money.{Money}
 use Rattle.chart.specs.declared.Built.{Built}
-use Rattle.chart.specs.declared.Built.TheVariants as Built
 
 abbrev pub bits : Float → ℕ
 bits x = to_bits binary64 x

@@ -1,9 +1,6 @@
 use Rattle.chart.proofs.Kept.{range_on, range_stop, range_end}
-use Rattle.chart.specs.Quotes.{Columns, columns_of, quotes, all_in_range}
-use borrow.Author.Tests.{not-true, not-false}
-use Prim.Native.Nat.{◌-◌, ◌≤◌}
-use mathlib.Core.Path.{◌≡◌, refl, sym, ◌∙◌}
-use lib.ListN.{drop}
+use Rattle.chart.specs.Quotes.{Columns, columns_of}
+use mathlib.Core.Path.{refl, sym, ◌∙◌}
 use native.Mathlib.Omega.{arith}
 use Rattle.admission.proofs.are_quotes.Goals as goal
 

@@ -1,11 +1,8 @@
 -- `admission::are_quotes`: the quotes passed are in range, so the rest decides. Assumes nothing.
-use Rattle.chart.proofs.Kept.{range_on, range_stop, range_end}
-use Rattle.chart.specs.Quotes.{Columns, columns_of, quotes, all_in_range}
-use borrow.Author.Tests.{not-true, not-false}
+use Rattle.chart.specs.Quotes.{columns_of, quotes, all_in_range}
 use Prim.Native.Nat.{◌-◌, ◌≤◌}
-use mathlib.Core.Path.{◌≡◌, refl, sym, ◌∙◌}
+use mathlib.Core.Path.{◌≡◌}
 use lib.ListN.{drop}
-use native.Mathlib.Omega.{arith}
 use Rattle.admission.proofs.are_quotes.Given as goal
 
 abbrev pub invariant-loop-i : goal.invariant-loop-i

@@ -1,5 +1,4 @@
 -- `admission::axes_number`: the checks, a row each. Assumes nothing.
-use borrow.Author.Rules.{rules}
 use Rattle.admission.proofs.axes_number.Goals as goal
 
 pub returns : goal.returns

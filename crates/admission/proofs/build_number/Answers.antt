@@ -3,7 +3,6 @@ use Rattle.limits.specs.Checks.{first}
 use Rattle.chart.specs.Quotes.{Columns, columns_of, is_short}
 use Rattle.chart.specs.Build.{is_wrong}
 use Rattle.chart.proofs.Kept.{long}
-use borrow.Author.Rules.{rules}
 use borrow.Author.Tests.{lt-ltb, le-ltb}
 use mathlib.Core.Path.{◌≡◌}
 use mathlib.Core.Bool.{false}

@@ -1,5 +1,4 @@
 -- `admission::is_quote`: the three tests in a row. Assumes nothing.
-use borrow.Author.Rules.{rules}
 use Rattle.admission.proofs.is_quote.Goals as goal
 
 pub returns : goal.returns

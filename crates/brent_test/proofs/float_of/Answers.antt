@@ -1,5 +1,4 @@
 -- `brent_test::float_of`: below the sign, the not-a-number patterns are those above infinity's. Assumes nothing.
-use borrow.Author.Rules.{rules}
 use borrow.Author.Tests.{le-ltb}
 use lib.Ieee.Bits.{nan_bits_above}
 use Rattle.brent_test.proofs.float_of.Goals as goal

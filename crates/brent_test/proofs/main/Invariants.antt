@@ -1,7 +1,4 @@
 -- `brent_test::main`: each turn reads a line whole and leaves one turn fewer. Assumes nothing.
-use mathlib.Core.Path.{refl}
-use native.Mathlib.Omega.{arith}
-use borrow.Author.Rules.{rules}
 use Rattle.brent_test.proofs.main.Given as goal
 
 abbrev pub invariant-loop-left : goal.invariant-loop-left

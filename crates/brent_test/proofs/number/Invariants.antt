@@ -1,7 +1,5 @@
 -- `brent_test::number`: the index stays below 17, inside the line. Assumes nothing.
 use Prim.Native.Nat.{◌≤◌, ◌-◌}
-use native.Mathlib.Omega.{arith}
-use borrow.Author.Rules.{rules}
 use Rattle.brent_test.proofs.number.Given as goal
 
 abbrev pub invariant-loop-i : goal.invariant-loop-i

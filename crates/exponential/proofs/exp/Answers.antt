@@ -1,7 +1,7 @@
 -- `exponential::exp`: after the tests v × 1.4426950408889634 + 0.5 is in range (Scaled), so floor and powers are defined. Assumes nothing.
-use Rattle.std.proofs.Common.{◌≡◌, ℕ, suc, ◌+◌, ◌-◌, ◌<◌, ◌≤◌, Bool, true, false, cond, T, ltb, ℤ, pos, negsuc, ◌+ℤ◌, sym, refl, ap, ◌∙◌, subst, true≢false, arith, lit≤, ltb→lt, w64, SFits, to_z, of_z, rules}
+use Rattle.std.proofs.Common.{◌≡◌, ℕ, suc, ◌+◌, ◌-◌, ◌<◌, ◌≤◌, Bool, true, false, cond, T, ltb, ℤ, pos, negsuc, ◌+ℤ◌, sym, refl, ap, ◌∙◌, subst, true≢false, arith, lit≤, ltb→lt, w64, SFits, to_z, of_z}
 use lib.Signed.{mag}
-use lib.Ieee.{Float, nan, inf, fin, is_nan, ne, lt, of_bits, neg, div, round}
+use lib.Ieee.{Float, nan, inf, fin, is_nan, ne, of_bits, neg, div, round}
 use lib.Ieee.Compare.{differs_from_itself, nan_differs}
 use mir.ValLaws.{to_z-of_z}
 use Rattle.elementary.specs.Exp.{scaled, sum_at, exp, exp_at, exp_far_at, floor}

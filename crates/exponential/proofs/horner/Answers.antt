@@ -1,4 +1,4 @@
-use Rattle.std.proofs.Common.{◌≡◌, ◌-◌, ◌≤◌, length, refl, ap, ◌∙◌, add-one, arith, rules}
+use Rattle.std.proofs.Common.{◌≡◌, ◌-◌, length, refl, ap, ◌∙◌, add-one, arith}
 use Rattle.elementary.specs.Tables.{horner, entry_of}
 use Rattle.exponential.proofs.horner.Goals as goal
 

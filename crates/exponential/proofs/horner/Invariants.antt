@@ -1,5 +1,5 @@
 -- `exponential::horner`: after n rounds p is `horner` of the table's entries after n. Assumes nothing.
-use Rattle.std.proofs.Common.{◌≡◌, ◌-◌, ◌≤◌, length, refl, ap, ◌∙◌, add-one, arith, rules}
+use Rattle.std.proofs.Common.{◌≡◌, ◌-◌, ◌≤◌}
 use Rattle.elementary.specs.Tables.{horner, entry_of}
 use Rattle.exponential.proofs.horner.Given as goal
 

@@ -1,5 +1,5 @@
 -- `exponential::ln`: the four tests leave a float above 0, whose digits and exponent `taken_apart` reads (Mantissas). Assumes nothing.
-use Rattle.std.proofs.Common.{◌≡◌, ℕ, zero, suc, ◌+◌, ◌<◌, ◌≤◌, true, false, not, T, ℤ, pos, ◌-ℤ◌, sym, refl, ap, ◌∙◌, subst, lt_of_not-le, arith, w64, SFits, to_z, of_z, rules, le-ltb, lt-ltb}
+use Rattle.std.proofs.Common.{◌≡◌, ℕ, zero, suc, ◌+◌, ◌<◌, ◌≤◌, true, false, not, T, ℤ, pos, ◌-ℤ◌, sym, refl, ap, ◌∙◌, subst, lt_of_not-le, arith, w64, SFits, to_z, of_z, le-ltb, lt-ltb}
 use native.Mathlib.Decide.{dec_le}
 use lib.Signed.{mag}
 use lib.Ieee.{Float, nan, inf, fin, binary64, fits, is_nan, of_bits, div, neg, round}

@@ -1,5 +1,5 @@
 -- `exponential::ln_at`: e is small enough to be a float, and the sum over the table is `horner`'s. Assumes nothing.
-use Rattle.std.proofs.Common.{sym, ◌∙◌, arith, w64, rules}
+use Rattle.std.proofs.Common.{sym, ◌∙◌, arith, w64}
 use Rattle.elementary.specs.Ln.{ln_at}
 use lib.Ieee.{of_bits, round}
 use mir.ValLaws.{to_z-of_z}

@@ -1,8 +1,7 @@
-use Rattle.gaps.proofs.Passes.{Backed, backward_start, backward_step, backward_end}
+use Rattle.gaps.proofs.Passes.{backward_start, backward_step, backward_end}
 use Prim.Native.Nat.{suc, ◌-◌}
 use mathlib.Core.Path.{◌≡◌, refl}
-use lib.ListN.{length, length-set}
-use lib.Ieee.{nan}
+use lib.ListN.{length-set}
 use native.Mathlib.Omega.{arith}
 use Rattle.filler.proofs.backward_pass.Goals as goal
 

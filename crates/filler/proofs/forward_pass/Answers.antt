@@ -1,10 +1,7 @@
 use Rattle.gaps.proofs.Passes.{forward_step, forward_end}
-use Rattle.gaps.specs.Gaps.{forward}
-use Prim.Native.Nat.{◌-◌, ◌≤◌, ◌<◌}
-use mathlib.Core.Path.{◌≡◌, refl, sym, ◌∙◌}
-use mathlib.Core.List.{◌++◌}
-use lib.ListN.{length, take, drop, length-set}
-use lib.Ieee.{nan}
+use Prim.Native.Nat.{◌≤◌, ◌<◌}
+use mathlib.Core.Path.{refl, sym, ◌∙◌}
+use lib.ListN.{length, length-set}
 use native.Mathlib.Omega.{arith}
 use Rattle.filler.proofs.forward_pass.Goals as goal
 

@@ -1,12 +1,10 @@
 -- `filler::forward_pass`: what is done, then the pass over the rest, is the pass over the row. Assumes nothing.
-use Rattle.gaps.proofs.Passes.{forward_step, forward_end}
 use Rattle.gaps.specs.Gaps.{forward}
-use Prim.Native.Nat.{◌-◌, ◌≤◌, ◌<◌}
-use mathlib.Core.Path.{◌≡◌, refl, sym, ◌∙◌}
+use Prim.Native.Nat.{◌-◌, ◌≤◌}
+use mathlib.Core.Path.{◌≡◌}
 use mathlib.Core.List.{◌++◌}
-use lib.ListN.{length, take, drop, length-set}
+use lib.ListN.{length, take, drop}
 use lib.Ieee.{nan}
-use native.Mathlib.Omega.{arith}
 use Rattle.filler.proofs.forward_pass.Given as goal
 
 abbrev pub invariant-loop-j : goal.invariant-loop-j

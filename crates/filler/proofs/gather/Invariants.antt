@@ -1,10 +1,9 @@
 -- `filler::gather`: a loop that writes the cells of a column one after the other. Assumes nothing.
-use Rattle.grid.proofs.Rows.{Written, write_start, write_step, write_end}
+use Rattle.grid.proofs.Rows.{Written}
 use Prim.Native.Nat.{◌+◌, ◌-◌, ◌*◌, ◌≤◌}
-use mathlib.Core.Path.{◌≡◌, refl}
-use lib.ListN.{length, get_or, length-set}
+use mathlib.Core.Path.{◌≡◌}
+use lib.ListN.{length, get_or}
 use lib.Ieee.{nan}
-use native.Mathlib.Omega.{arith}
 use Rattle.filler.proofs.gather.Given as goal
 
 abbrev pub invariant-loop-i : goal.invariant-loop-i

@@ -3,7 +3,6 @@ use Rattle.gaps.specs.Gaps.{swept}
 use mathlib.Core.Path.{◌∙◌, ap}
 use mathlib.Core.List.{List}
 use lib.Ieee.{Float}
-use borrow.Author.Rules.{rules}
 use Rattle.filler.proofs.gather_swept.Goals as goal
 
 pub returns : goal.returns

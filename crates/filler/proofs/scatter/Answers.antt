@@ -1,8 +1,6 @@
 use Rattle.gaps.proofs.Columns.{put_step, put_end}
-use Rattle.gaps.specs.Gaps.{put_column}
-use Prim.Native.Nat.{◌-◌, ◌≤◌}
-use mathlib.Core.Path.{◌≡◌, refl, sym, ◌∙◌}
-use lib.ListN.{length, drop, length-set}
+use mathlib.Core.Path.{refl, sym, ◌∙◌}
+use lib.ListN.{length-set}
 use native.Mathlib.Omega.{arith}
 use Rattle.filler.proofs.scatter.Goals as goal
 

@@ -1,10 +1,8 @@
 -- `filler::scatter`: a loop that writes values down a column. Assumes nothing.
-use Rattle.gaps.proofs.Columns.{put_step, put_end}
 use Rattle.gaps.specs.Gaps.{put_column}
 use Prim.Native.Nat.{◌-◌, ◌≤◌}
-use mathlib.Core.Path.{◌≡◌, refl, sym, ◌∙◌}
-use lib.ListN.{length, drop, length-set}
-use native.Mathlib.Omega.{arith}
+use mathlib.Core.Path.{◌≡◌}
+use lib.ListN.{length, drop}
 use Rattle.filler.proofs.scatter.Given as goal
 
 abbrev pub invariant-loop-i : goal.invariant-loop-i

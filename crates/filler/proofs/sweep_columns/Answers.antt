@@ -1,8 +1,6 @@
 use Rattle.gaps.proofs.Columns.{columns_step}
 use Rattle.gaps.specs.Gaps.{columns_swept}
-use Prim.Native.Nat.{◌-◌, ◌≤◌}
 use mathlib.Core.Path.{◌≡◌, refl, ◌∙◌}
-use lib.ListN.{length}
 use native.Mathlib.Omega.{arith}
 use Rattle.filler.proofs.sweep_columns.Goals as goal
 

@@ -1,10 +1,8 @@
 -- `filler::sweep_columns`: one column more in each round. Assumes nothing.
-use Rattle.gaps.proofs.Columns.{columns_step}
 use Rattle.gaps.specs.Gaps.{columns_swept}
 use Prim.Native.Nat.{◌-◌, ◌≤◌}
-use mathlib.Core.Path.{◌≡◌, refl, ◌∙◌}
+use mathlib.Core.Path.{◌≡◌}
 use lib.ListN.{length}
-use native.Mathlib.Omega.{arith}
 use Rattle.filler.proofs.sweep_columns.Given as goal
 
 abbrev pub invariant-loop-j : goal.invariant-loop-j

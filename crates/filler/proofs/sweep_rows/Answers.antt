@@ -2,9 +2,8 @@ use Rattle.gaps.proofs.Passes.{rows_step}
 use Rattle.grid.proofs.Rows.{RowWithin, row_within}
 use borrow.Rule.Slice.PartMut.{same_len_mid}
 use Rattle.gaps.specs.Gaps.{rows_swept}
-use Prim.Native.Nat.{◌+◌, ◌-◌, ◌*◌, ◌≤◌}
+use Prim.Native.Nat.{◌+◌, ◌-◌, ◌*◌}
 use mathlib.Core.Path.{◌≡◌, refl, ◌∙◌}
-use lib.ListN.{length}
 use native.Mathlib.Omega.{arith}
 use Rattle.filler.proofs.sweep_rows.Goals as goal
 

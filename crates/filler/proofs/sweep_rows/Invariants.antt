@@ -1,12 +1,8 @@
 -- `filler::sweep_rows`: one row more in each round, lent as a part and given back. Assumes nothing.
-use Rattle.gaps.proofs.Passes.{rows_step}
-use Rattle.grid.proofs.Rows.{RowWithin, row_within}
-use borrow.Rule.Slice.PartMut.{same_len_mid}
 use Rattle.gaps.specs.Gaps.{rows_swept}
-use Prim.Native.Nat.{◌+◌, ◌-◌, ◌*◌, ◌≤◌}
-use mathlib.Core.Path.{◌≡◌, refl, ◌∙◌}
+use Prim.Native.Nat.{◌-◌, ◌≤◌}
+use mathlib.Core.Path.{◌≡◌}
 use lib.ListN.{length}
-use native.Mathlib.Omega.{arith}
 use Rattle.filler.proofs.sweep_rows.Given as goal
 
 abbrev pub invariant-loop-i : goal.invariant-loop-i

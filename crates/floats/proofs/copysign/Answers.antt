@@ -1,5 +1,4 @@
 -- `floats::copysign`: the magnitude by `abs`, turned where `is_negative` says so. Assumes nothing.
-use borrow.Author.Rules.{rules}
 use Rattle.floats.specs.Values.{copysign}
 use Rattle.floats.proofs.copysign.Goals as goal
 

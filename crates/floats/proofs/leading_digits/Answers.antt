@@ -3,7 +3,6 @@ use mathlib.Core.Path.{sym, subst}
 use mathlib.Core.Bool.{not}
 use Prim.Native.Nat.{◌<◌}
 use native.Mathlib.Omega.{arith}
-use borrow.Author.Rules.{rules}
 use lib.Dec.{T}
 use lib.Ieee.{Float, nan, inf, fin, binary64, fits, is_nan, to_bits}
 use lib.Ieee.Bits.{to_bits-lt}

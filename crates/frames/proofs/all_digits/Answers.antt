@@ -1,9 +1,5 @@
-use mathlib.Core.Path.{◌≡◌, refl, sym, ◌∙◌}
-use Prim.Native.Nat.{◌≤◌, ◌-◌}
+use mathlib.Core.Path.{refl, sym, ◌∙◌}
 use native.Mathlib.Omega.{arith}
-use borrow.Author.Tests.{not-true, not-false}
-use lib.ListN.{length, drop}
-use Rattle.hexlines.specs.Hex.{all_digits}
 use Rattle.hexlines.proofs.Digits.{all_step, all_stop, all_end}
 use Rattle.frames.proofs.all_digits.Goals as goal
 

@@ -1,11 +1,8 @@
 -- `frames::all_digits`: the invariant says that the bytes from i on are all digits exactly if all are. Assumes nothing.
-use mathlib.Core.Path.{◌≡◌, refl, sym, ◌∙◌}
+use mathlib.Core.Path.{◌≡◌}
 use Prim.Native.Nat.{◌≤◌, ◌-◌}
-use native.Mathlib.Omega.{arith}
-use borrow.Author.Tests.{not-true, not-false}
 use lib.ListN.{length, drop}
 use Rattle.hexlines.specs.Hex.{all_digits}
-use Rattle.hexlines.proofs.Digits.{all_step, all_stop, all_end}
 use Rattle.frames.proofs.all_digits.Given as goal
 
 abbrev pub invariant-loop-i : goal.invariant-loop-i

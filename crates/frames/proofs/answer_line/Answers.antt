@@ -1,10 +1,8 @@
 use mathlib.Core.Path.{refl}
 use native.Mathlib.Nat.{div-one}
 use native.Mathlib.Omega.{arith}
-use borrow.Author.Rules.{rules}
-use lib.Ieee.{binary64, to_bits}
 use Rattle.hexlines.specs.Hex.{answer_line, decimals, digits}
-use Rattle.hexlines.proofs.Writing.{Writing, one_more, all_written}
+use Rattle.hexlines.proofs.Writing.{one_more, all_written}
 use Rattle.frames.proofs.answer_line.Goals as goal
 
 pub loop-i-init : goal.loop-i-init

@@ -1,11 +1,7 @@
 -- `frames::answer_line`: the digits are written from the last to the first, as `Writing` says. Assumes nothing.
-use mathlib.Core.Path.{refl}
-use native.Mathlib.Nat.{div-one}
-use native.Mathlib.Omega.{arith}
-use borrow.Author.Rules.{rules}
 use lib.Ieee.{binary64, to_bits}
-use Rattle.hexlines.specs.Hex.{answer_line, decimals, digits}
-use Rattle.hexlines.proofs.Writing.{Writing, one_more, all_written}
+use Rattle.hexlines.specs.Hex.{decimals}
+use Rattle.hexlines.proofs.Writing.{Writing}
 use Rattle.frames.proofs.answer_line.Given as goal
 
 abbrev pub invariant-loop-i : goal.invariant-loop-i

@@ -1,7 +1,6 @@
 -- `frames::bits_of`: only a not-a-number differs from itself. Assumes nothing.
 use mathlib.Core.Path.{sym, subst}
 use lib.Dec.{T}
-use borrow.Author.Rules.{rules}
 use lib.Ieee.{to_bits}
 use lib.Ieee.Compare.{differs_from_itself}
 use Rattle.hexlines.proofs.Patterns.{same_no_nan}

@@ -1,5 +1,4 @@
 -- `frames::digit_of`: '0' and on up to 9, 'A' and on from 10. Assumes nothing.
-use borrow.Author.Rules.{rules}
 use borrow.Author.Tests.{le-leb, lt-leb}
 use Rattle.hexlines.specs.Hex.{digit}
 use Rattle.frames.proofs.digit_of.Goals as goal

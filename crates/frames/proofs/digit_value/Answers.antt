@@ -1,6 +1,5 @@
 -- `frames::digit_value`: in each range the byte less the range's first, or 10 more. Assumes nothing.
 use mathlib.Core.Path.{sym, ◌∙◌}
-use borrow.Author.Rules.{rules}
 use Rattle.hexlines.specs.Hex.{between, digit_value}
 use Rattle.hexlines.proofs.Digits.{above}
 use Rattle.frames.proofs.digit_value.Goals as goal

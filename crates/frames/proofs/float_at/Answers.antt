@@ -1,5 +1,4 @@
 -- `frames::float_at`: the float of the bits that stand there. Assumes nothing.
-use borrow.Author.Rules.{rules}
 use Rattle.hexlines.specs.Hex.{float}
 use Rattle.frames.proofs.float_at.Goals as goal
 

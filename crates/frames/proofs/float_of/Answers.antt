@@ -1,5 +1,4 @@
 -- `frames::float_of`: with the sign off, a pattern above infinity's is a not-a-number's, and no other is. Assumes nothing.
-use borrow.Author.Rules.{rules}
 use borrow.Author.Tests.{lt-ltb, le-ltb}
 use lib.Ieee.{div, of_bits}
 use Rattle.hexlines.proofs.Patterns.{above_is_nan, below_no_nan}

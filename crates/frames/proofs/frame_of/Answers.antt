@@ -1,7 +1,5 @@
 -- `frames::frame_of`: a wrong character or a wrong length, else as many floats as the length has. Assumes nothing.
 use mathlib.Core.Path.{sym, ◌∙◌}
-use borrow.Author.Rules.{rules}
-use borrow.Author.Tests.{not-true, not-false}
 use Rattle.hexlines.proofs.Parts.{wrong_character, wrong_length}
 use Rattle.frames.proofs.frame_of.Goals as goal
 

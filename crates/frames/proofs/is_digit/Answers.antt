@@ -1,5 +1,4 @@
 -- `frames::is_digit`: its two ranges. Assumes nothing.
-use borrow.Author.Rules.{rules}
 use Rattle.hexlines.specs.Hex.{between, is_digit}
 use Rattle.frames.proofs.is_digit.Goals as goal
 

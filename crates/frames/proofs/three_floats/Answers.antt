@@ -1,6 +1,5 @@
 -- `frames::three_floats`: a line of digits with the length of three floats is of kind 11, 12 or 13, or of none. Assumes nothing.
 use mathlib.Core.Path.{sym, ◌∙◌}
-use borrow.Author.Rules.{rules}
 use borrow.Author.Tests.{ne_eqb}
 use Rattle.hexlines.specs.Frames.{is_frame, frame_of}
 use Rattle.frames.proofs.three_floats.Goals as goal

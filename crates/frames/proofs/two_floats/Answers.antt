@@ -1,5 +1,4 @@
 -- `frames::two_floats`: a line of digits with the length of two floats is of kind 10 or 20, or of none. Assumes nothing.
-use borrow.Author.Rules.{rules}
 use borrow.Author.Tests.{ne_eqb}
 use mathlib.Core.Path.{sym, ◌∙◌}
 use Rattle.hexlines.specs.Frames.{is_frame, frame_of}

@@ -1,11 +1,8 @@
-use mathlib.Core.Path.{◌≡◌, sym, ◌∙◌}
-use Prim.Native.Nat.{◌≤◌, ◌<◌, ◌-◌, ◌+◌, ◌^◌}
+use mathlib.Core.Path.{sym, ◌∙◌}
+use Prim.Native.Nat.{◌+◌}
 use native.Mathlib.Nat.{add-zero}
 use native.Mathlib.Omega.{arith}
-use borrow.Author.Rules.{rules}
 use lib.Dec.{lit<}
-use lib.ListN.{drop, take}
-use Rattle.hexlines.specs.Hex.{value_after, value}
 use Rattle.hexlines.proofs.Digits.{digit_small, value_next, value_done, value_small, value_fits}
 use Rattle.frames.proofs.word.Goals as goal
 

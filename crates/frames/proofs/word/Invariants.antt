@@ -1,13 +1,8 @@
 -- `frames::word`: v and the digits still to come write the word, and v is a number of i digits. Assumes nothing.
-use mathlib.Core.Path.{◌≡◌, sym, ◌∙◌}
+use mathlib.Core.Path.{◌≡◌}
 use Prim.Native.Nat.{◌≤◌, ◌<◌, ◌-◌, ◌+◌, ◌^◌}
-use native.Mathlib.Nat.{add-zero}
-use native.Mathlib.Omega.{arith}
-use borrow.Author.Rules.{rules}
-use lib.Dec.{lit<}
 use lib.ListN.{drop, take}
 use Rattle.hexlines.specs.Hex.{value_after, value}
-use Rattle.hexlines.proofs.Digits.{digit_small, value_next, value_done, value_small, value_fits}
 use Rattle.frames.proofs.word.Given as goal
 
 abbrev pub invariant-loop-i : goal.invariant-loop-i

@@ -1,5 +1,4 @@
 -- `frames_test::main`: the turns run out. Assumes nothing.
-use borrow.Author.Rules.{rules}
 use Rattle.frames_test.proofs.main.Given as goal
 
 abbrev pub invariant-loop-turns : goal.invariant-loop-turns

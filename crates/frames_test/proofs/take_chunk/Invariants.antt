@@ -1,7 +1,5 @@
 -- `frames_test::take_chunk`: as many turns as the chunk has bytes. Assumes nothing.
 use Prim.Native.Nat.{◌≤◌, ◌-◌}
-use native.Mathlib.Omega.{arith}
-use borrow.Author.Rules.{rules}
 use lib.ListN.{length}
 use Rattle.frames_test.proofs.take_chunk.Given as goal
 

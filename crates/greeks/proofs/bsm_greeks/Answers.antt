@@ -3,7 +3,6 @@ use mathlib.Core.Path.{◌≡◌, sym, ◌∙◌}
 use borrow.Author.Tests.{eq-eqb, ne_eqb}
 use Rattle.limits.specs.Outcome.{answered}
 use Rattle.blackscholes.specs.Checks.{refusal, outcome_of_greeks, sensitivities}
-use borrow.Author.Rules.{rules}
 use Rattle.greeks.proofs.bsm_greeks.Goals as goal
 
 pub returns-then-number-ne0 : goal.returns-then-number-ne0

@@ -5,7 +5,6 @@ use Rattle.floats.specs.Operators.{decimal}
 use Rattle.blackscholes.specs.Model.{discount, spread, d1, d2}
 use Rattle.blackscholes.specs.Greeks.{greeks}
 use Rattle.blackscholes.proofs.CallOrPut.{by_kind}
-use borrow.Author.Rules.{rules}
 use Rattle.greeks.proofs.greeks_of.Goals as goal
 
 -- the literals of the code

@@ -1,6 +1,5 @@
 -- `greeks::implied_number`: line for line the definition. Assumes nothing.
 use Rattle.blackscholes.specs.Implied.{implied_refusal}
-use borrow.Author.Rules.{rules}
 use Rattle.greeks.proofs.implied_number.Goals as goal
 
 pub returns : goal.returns

@@ -2,7 +2,6 @@
 use mathlib.Core.Path.{◌≡◌, sym, ◌∙◌}
 use borrow.Author.Tests.{eq-eqb, ne_eqb}
 use Rattle.blackscholes.specs.Implied.{implied_refusal, implied, outcome_of_implied}
-use borrow.Author.Rules.{rules}
 use Rattle.greeks.proofs.implied_volatility.Goals as goal
 
 pub returns-then-number-ne0 : goal.returns-then-number-ne0

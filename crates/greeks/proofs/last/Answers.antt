@@ -1,5 +1,4 @@
 -- `greeks::last`: of a solver that has ended, Found and Refused carry the answer; one that still asks is excluded. Assumes nothing.
-use borrow.Author.Rules.{rules}
 use Rattle.blackscholes.proofs.Solving.{last_found, last_refused, still_asking}
 use Rattle.greeks.proofs.last.Goals as goal
 

@@ -1,6 +1,5 @@
 -- `greeks::option_number`: line for line the definition. Assumes nothing.
 use Rattle.blackscholes.specs.Checks.{option_refusal}
-use borrow.Author.Rules.{rules}
 use Rattle.greeks.proofs.option_number.Goals as goal
 
 pub returns : goal.returns

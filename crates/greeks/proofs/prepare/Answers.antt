@@ -1,7 +1,6 @@
 -- `greeks::prepare`: each field is what its call ensures. Assumes nothing.
 use mathlib.Core.Path.{refl}
 use Rattle.blackscholes.specs.Model.{discount}
-use borrow.Author.Rules.{rules}
 use Rattle.greeks.proofs.prepare.Goals as goal
 
 pub returns : goal.returns

@@ -1,6 +1,5 @@
 -- `greeks::price_at`: d1 and d2 by `d1d2`, both probabilities by one `cdf_pair`, then an arm for each kind. Assumes nothing.
 use Rattle.blackscholes.specs.Model.{discount, price}
-use borrow.Author.Rules.{rules}
 use Rattle.greeks.proofs.price_at.Goals as goal
 
 pub d1d2-d-requires : goal.d1d2-d-requires

@@ -1,6 +1,5 @@
 -- `greeks::refusal_number`: line for line the definition. Assumes nothing.
 use Rattle.blackscholes.specs.Checks.{refusal}
-use borrow.Author.Rules.{rules}
 use Rattle.greeks.proofs.refusal_number.Goals as goal
 
 pub returns : goal.returns

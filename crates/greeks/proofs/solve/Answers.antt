@@ -1,9 +1,6 @@
-use mathlib.Core.Path.{◌≡◌, sym, ◌∙◌, subst}
-use native.Mathlib.Omega.{arith}
+use mathlib.Core.Path.{sym, ◌∙◌, subst}
 use lib.Ieee.{Float}
-use borrow.Author.Rules.{rules}
-use Rattle.brent.specs.Outcome.{outcome}
-use Rattle.brent.specs.Run.{feed_with, run_with}
+use Rattle.brent.specs.Run.{run_with}
 use Rattle.blackscholes.specs.Implied.{Closed}
 use Rattle.blackscholes.specs.Model.{at_volatility, price}
 use Rattle.greeks.specs.declared.Prepared.{Prepared}

@@ -1,15 +1,11 @@
 -- `greeks::solve`: what is left of the run, fed from the last answer, ends where the whole run does; a run on the prices of a function has ended. Assumes
 -- nothing.
-use mathlib.Core.Path.{◌≡◌, sym, ◌∙◌, subst}
-use native.Mathlib.Omega.{arith}
+use mathlib.Core.Path.{◌≡◌}
 use lib.Ieee.{Float}
-use borrow.Author.Rules.{rules}
 use Rattle.brent.specs.Outcome.{outcome}
 use Rattle.brent.specs.Run.{feed_with, run_with}
-use Rattle.blackscholes.specs.Implied.{Closed}
 use Rattle.blackscholes.specs.Model.{at_volatility, price}
 use Rattle.greeks.specs.declared.Prepared.{Prepared}
-use Rattle.blackscholes.proofs.Solving.{rests, again, nothing_left, run_closed}
 use Rattle.greeks.proofs.solve.Given as goal
 
 abbrev price_at : Prepared → Float → Float

@@ -1,7 +1,6 @@
 -- `greeks_test::bits_of`: what equals itself is no not-a-number, so it has a pattern. Assumes nothing.
 use mathlib.Core.Path.{sym, ◌∙◌, subst}
 use mathlib.Core.Bool.{Bool, not}
-use borrow.Author.Rules.{rules}
 use lib.Dec.{T}
 use Rattle.floats.proofs.Signs.{nan_is}
 use Rattle.greeks_test.proofs.bits_of.Goals as goal

@@ -1,6 +1,4 @@
 -- `greeks_test::main`: each kind of record leaves one fewer to run. Assumes nothing.
-use native.Mathlib.Omega.{arith}
-use borrow.Author.Rules.{rules}
 use Rattle.greeks_test.proofs.main.Given as goal
 
 abbrev pub invariant-loop-left : goal.invariant-loop-left

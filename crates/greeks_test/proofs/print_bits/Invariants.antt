@@ -1,9 +1,7 @@
 -- `greeks_test::print_bits`: the index runs from 16 down to 1, inside the 17 places. Assumes nothing.
-use mathlib.Core.Path.{◌≡◌, refl}
+use mathlib.Core.Path.{◌≡◌}
 use Prim.Native.Nat.{◌≤◌}
-use native.Mathlib.Omega.{arith}
-use borrow.Author.Rules.{rules}
-use lib.ListN.{length, length-set}
+use lib.ListN.{length}
 use Rattle.greeks_test.proofs.print_bits.Given as goal
 
 abbrev pub invariant-loop-i : goal.invariant-loop-i

@@ -1,5 +1,4 @@
 -- `limits::is_price`: `is_finite`, and then the test against 0.0. Assumes nothing.
-use borrow.Author.Rules.{rules}
 use lib.Ieee.{of_bits, round}
 use Rattle.limits.specs.Ranges.{is_price}
 use Rattle.limits.proofs.is_price.Goals as goal

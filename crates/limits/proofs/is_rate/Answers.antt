@@ -1,5 +1,4 @@
 -- `limits::is_rate`: the literals -1.0 and 1.0 are the nearest floats, by computation. Assumes nothing.
-use borrow.Author.Rules.{rules}
 use lib.Ieee.{of_bits, round, neg}
 use Rattle.limits.proofs.is_rate.Goals as goal
 

@@ -1,5 +1,4 @@
 -- `limits::is_strike`: the range is the spot's. Assumes nothing.
-use borrow.Author.Rules.{rules}
 use Rattle.limits.proofs.is_strike.Goals as goal
 
 pub returns : goal.returns

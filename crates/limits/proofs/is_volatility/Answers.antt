@@ -1,5 +1,4 @@
 -- `limits::is_volatility`: the literals 0.000001 and 10.0 are the nearest floats, by computation. Assumes nothing.
-use borrow.Author.Rules.{rules}
 use lib.Ieee.{of_bits, round, neg}
 use Rattle.limits.proofs.is_volatility.Goals as goal
 

@@ -1,5 +1,4 @@
 -- `normal::cdf`: the first of a pair. Assumes nothing.
-use borrow.Author.Rules.{rules}
 use Rattle.normal.proofs.cdf.Goals as goal
 
 pub returns : goal.returns

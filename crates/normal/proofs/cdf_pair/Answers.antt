@@ -1,6 +1,5 @@
 -- `normal::cdf_pair`: one call of `erfc_pair`, the literals by computation. Assumes nothing.
 use lib.Ieee.{of_bits, round}
-use borrow.Author.Rules.{rules}
 use Rattle.normal.proofs.cdf_pair.Goals as goal
 
 pub returns : goal.returns

@@ -1,5 +1,4 @@
 -- `normal::erfc`: the first of a pair. Assumes nothing.
-use borrow.Author.Rules.{rules}
 use Rattle.normal.proofs.erfc.Goals as goal
 
 pub returns : goal.returns

@@ -1,5 +1,4 @@
 -- `normal::erfc_pair`: erfc of a value below 0 from its mirror image's (`of_upright`). Assumes nothing.
-use borrow.Author.Rules.{rules}
 use Rattle.gauss.proofs.Mirror.{of_upright}
 use Rattle.normal.proofs.erfc_pair.Goals as goal
 

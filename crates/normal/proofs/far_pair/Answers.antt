@@ -7,7 +7,6 @@ use mathlib.Core.Bool.{◌&&◌}
 use Rattle.floats.specs.Operators.{◌≺◌}
 use Rattle.floats.proofs.Tests.{and_left, and_right}
 use Rattle.floats.proofs.Signs.{O}
-use borrow.Author.Rules.{rules}
 use Rattle.gauss.proofs.Vanish.{over, vanishes}
 use Rattle.normal.proofs.far_pair.Goals as goal
 

@@ -1,8 +1,6 @@
 use mathlib.Core.Path.{◌≡◌, refl}
-use Prim.Native.Nat.{◌≤◌, ◌-◌}
 use native.Mathlib.Omega.{arith}
 use native.Mathlib.Numerals.{add-one}
-use borrow.Author.Rules.{rules}
 use lib.Ieee.{of_bits, round, of_int}
 use Rattle.gauss.specs.Erfc.{fraction}
 use Rattle.normal.proofs.fraction_pair.Goals as goal

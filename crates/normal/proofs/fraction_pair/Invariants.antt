@@ -1,10 +1,6 @@
 -- `normal::fraction_pair`: after k rounds c and d are `fraction x k` and `fraction y k`. Assumes nothing.
-use mathlib.Core.Path.{◌≡◌, refl}
+use mathlib.Core.Path.{◌≡◌}
 use Prim.Native.Nat.{◌≤◌, ◌-◌}
-use native.Mathlib.Omega.{arith}
-use native.Mathlib.Numerals.{add-one}
-use borrow.Author.Rules.{rules}
-use lib.Ieee.{of_bits, round, of_int}
 use Rattle.gauss.specs.Erfc.{fraction}
 use Rattle.normal.proofs.fraction_pair.Given as goal
 

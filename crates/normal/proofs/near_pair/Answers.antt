@@ -1,7 +1,6 @@
 -- `normal::near_pair`: both values from what `series_pair` and `exp` ensure, the literals by computation. Assumes nothing.
 use Rattle.gauss.specs.Erfc.{erfc_from_zero}
 use lib.Ieee.{of_bits, round}
-use borrow.Author.Rules.{rules}
 use Rattle.normal.proofs.near_pair.Goals as goal
 
 pub returns : goal.returns

@@ -1,6 +1,5 @@
 -- `normal::pdf`: one call of `exp`, with the literals the nearest floats by computation. Assumes nothing.
 use lib.Ieee.{of_bits, round}
-use borrow.Author.Rules.{rules}
 use Rattle.normal.proofs.pdf.Goals as goal
 
 pub returns : goal.returns

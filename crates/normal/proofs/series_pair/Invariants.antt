@@ -1,12 +1,7 @@
 -- `normal::series_pair`: both sums as in `series`, with one count of rounds; the loop ends early where both are settled. Assumes nothing.
-use mathlib.Core.Path.{◌≡◌, refl}
-use Prim.Native.Nat.{◌≤◌, ◌<◌, ◌-◌}
-use native.Mathlib.Omega.{arith}
-use borrow.Author.Rules.{rules}
-use lib.Ieee.{of_bits, round, of_int}
-use Rattle.floats.proofs.Tests.{and_left, and_right}
+use mathlib.Core.Path.{◌≡◌}
+use Prim.Native.Nat.{◌≤◌, ◌-◌}
 use Rattle.gauss.specs.Erfc.{series}
-use Rattle.gauss.proofs.Later.{next_term_lem, next_sum, last_sum}
 use Rattle.normal.proofs.series_pair.Given as goal
 
 abbrev pub invariant-loop-k : goal.invariant-loop-k

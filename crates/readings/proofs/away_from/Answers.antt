@@ -1,5 +1,4 @@
 -- `readings::away_from`: the magnitude of the difference. Assumes nothing.
-use borrow.Author.Rules.{rules}
 use Rattle.readings.proofs.away_from.Goals as goal
 
 pub returns : goal.returns

@@ -1,7 +1,6 @@
 -- `readings::corner_cells`: four cells by their places. Assumes nothing.
 use Rattle.grid.specs.Readings.{corners}
 use mathlib.Core.Path.{refl}
-use borrow.Author.Rules.{rules}
 use Rattle.readings.proofs.corner_cells.Goals as goal
 
 pub returns : goal.returns

@@ -1,7 +1,6 @@
 -- `readings::fraction`: the branch that its test chose. Assumes nothing.
 use Rattle.grid.specs.Readings.{fraction}
 use lib.Ieee.{of_bits, round}
-use borrow.Author.Rules.{rules}
 use Rattle.readings.proofs.fraction.Goals as goal
 
 pub returns-then-abs : goal.returns-then-abs

@@ -3,7 +3,6 @@ use Rattle.grid.specs.Readings.{inside}
 use lib.Seq.{length-take-le, get_or-take}
 use Prim.Native.Nat.{◌-◌, ◌<◌}
 use lib.Ieee.{nan}
-use borrow.Author.Rules.{rules}
 use native.Mathlib.Omega.{arith}
 use Rattle.readings.proofs.inside.Goals as goal
 

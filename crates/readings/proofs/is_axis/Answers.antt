@@ -1,9 +1,5 @@
 use Rattle.grid.proofs.Ascent.{ascent_none, ascent_first, ascent_start, ascent_stop, ascent_on, ascent_end}
-use Rattle.grid.specs.Readings.{is_axis, ascends}
-use borrow.Author.Tests.{not-true, not-false}
-use Prim.Native.Nat.{◌-◌, ◌≤◌}
-use mathlib.Core.Path.{◌≡◌, sym, ◌∙◌}
-use lib.ListN.{length, take, drop}
+use mathlib.Core.Path.{sym, ◌∙◌}
 use native.Mathlib.Omega.{arith}
 use Rattle.readings.proofs.is_axis.Goals as goal
 

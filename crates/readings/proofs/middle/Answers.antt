@@ -1,8 +1,7 @@
 -- `readings::middle`: past the end of the axis there is no value. Assumes nothing.
 use lib.ListN.{get_or-eq_default}
-use mathlib.Core.Path.{refl, sym, ◌∙◌}
+use mathlib.Core.Path.{sym, ◌∙◌}
 use lib.Ieee.{nan}
-use borrow.Author.Rules.{rules}
 use Rattle.readings.proofs.middle.Goals as goal
 
 pub returns-else-at-strike_axis : goal.returns-else-at-strike_axis

@@ -1,5 +1,4 @@
 -- `readings::middle_strike`: the reading at the middle strike. Assumes nothing.
-use borrow.Author.Rules.{rules}
 use Rattle.readings.proofs.middle_strike.Goals as goal
 
 pub returns : goal.returns

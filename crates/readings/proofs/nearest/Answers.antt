@@ -1,11 +1,10 @@
-use Rattle.grid.specs.Readings.{is_axis}
 use Rattle.grid.specs.Nearest.{away_from, NearestOf}
 use Rattle.grid.proofs.ReadChecks.{axis_some}
 use Rattle.grid.proofs.Nearest.{lead_start, lead_keep, lead_move, nearest_only}
 use Rattle.floats.specs.Operators.{◌≺◌}
 use mathlib.Core.Bool.{Bool, true, false}
 use mathlib.Core.Path.{◌≡◌, subst}
-use Prim.Native.Nat.{ℕ, ◌-◌, ◌≤◌, ◌<◌}
+use Prim.Native.Nat.{ℕ, ◌<◌}
 use mathlib.Core.List.{List}
 use lib.ListN.{length, take, get_or}
 use lib.Seq.{length-take-le, get_or-take}
@@ -35,16 +34,24 @@ pub loop-i-preserved-then-away_from : goal.loop-i-preserved-then-away_from
 loop-i-preserved-then-away_from c =
     let I = c.loop-i.invariant in
     let A = c.args in
-    let long = length-take-le A.n A.axis.now I.0 in
-    (I.0, I.1, omega arith, lead_move A.spot (take A.n A.axis.now) _ _ I.1 (omega arith)
-    (tested A.spot A.axis.now A.n _ _ _ _ true (omega arith) (omega (arith, I.3.within)) c.away_from.ensures c.away_from-in-loop-i.ensures c.if-away_from.true) I.3)
+    let long = length-take-le A.n A.axis.now I.0 in (
+      I.0,
+      I.1,
+      omega arith,
+      lead_move A.spot (take A.n A.axis.now) _ _ I.1 (omega arith)
+          (tested A.spot A.axis.now A.n _ _ _ _ true (omega arith) (omega (arith, I.3.within)) c.away_from.ensures c.away_from-in-loop-i.ensures c.if-away_from.true) I.3,
+    )
 
 pub loop-i-preserved : goal.loop-i-preserved
 loop-i-preserved c =
     let I = c.loop-i.invariant in
-    let A = c.args in
-    (I.0, I.1, omega arith, lead_keep A.spot (take A.n A.axis.now) _ _
-    (tested A.spot A.axis.now A.n _ _ _ _ false (omega arith) (omega (arith, I.3.within)) c.away_from.ensures c.away_from-in-loop-i.ensures c.if-away_from.false) I.3)
+    let A = c.args in (
+      I.0,
+      I.1,
+      omega arith,
+      lead_keep A.spot (take A.n A.axis.now) _ _
+          (tested A.spot A.axis.now A.n _ _ _ _ false (omega arith) (omega (arith, I.3.within)) c.away_from.ensures c.away_from-in-loop-i.ensures c.if-away_from.false) I.3,
+    )
 
 pub returns : goal.returns
 returns c =

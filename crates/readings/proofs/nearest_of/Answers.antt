@@ -1,13 +1,11 @@
 -- `readings::nearest_of`: of an axis the value at the index found, else none. Assumes nothing.
 use Rattle.grid.specs.Readings.{is_axis}
 use Rattle.grid.specs.Nearest.{nearest_strike}
-use borrow.Author.Tests.{not-true, not-false}
 use mathlib.Core.Path.{◌≡◌, sym, ◌∙◌}
 use mathlib.Core.Bool.{true}
 use lib.ListN.{take}
 use lib.Seq.{get_or-take}
 use lib.Ieee.{nan}
-use borrow.Author.Rules.{rules}
 use Rattle.readings.proofs.nearest_of.Goals as goal
 
 pub returns-then-not-is_axis : goal.returns-then-not-is_axis

@@ -2,7 +2,6 @@
 use lib.Seq.{take_all, take-length}
 use Prim.Native.Nat.{◌≤◌}
 use lib.ListN.{length}
-use borrow.Author.Rules.{rules}
 use native.Mathlib.Omega.{arith}
 use Rattle.readings.proofs.nearest_strike.Goals as goal
 

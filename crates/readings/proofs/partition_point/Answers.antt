@@ -1,9 +1,8 @@
-use Rattle.grid.proofs.First.{Looking, look_start, look_on, look_hit, look_end}
+use Rattle.grid.proofs.First.{look_start, look_on, look_hit, look_end}
 use mathlib.Core.Bool.{true, false, not}
 use Rattle.grid.specs.Readings.{above}
-use Prim.Native.Nat.{◌-◌, ◌≤◌}
 use mathlib.Core.Path.{◌≡◌, sym, ap, ◌∙◌}
-use lib.ListN.{length, get_or}
+use lib.ListN.{get_or}
 use lib.Ieee.{nan}
 use native.Mathlib.Omega.{arith}
 use Rattle.readings.proofs.partition_point.Goals as goal

@@ -1,12 +1,9 @@
 -- `readings::partition_point`: the search stops at the first value that is not at most x. Assumes nothing.
-use Rattle.grid.proofs.First.{Looking, look_start, look_on, look_hit, look_end}
-use mathlib.Core.Bool.{true, false}
+use Rattle.grid.proofs.First.{Looking}
 use Rattle.grid.specs.Readings.{above}
 use Prim.Native.Nat.{◌-◌, ◌≤◌}
-use mathlib.Core.Path.{◌≡◌, sym, ◌∙◌}
-use lib.ListN.{length, get_or}
+use lib.ListN.{length}
 use lib.Ieee.{nan}
-use native.Mathlib.Omega.{arith}
 use Rattle.readings.proofs.partition_point.Given as goal
 
 abbrev pub invariant-loop-i : goal.invariant-loop-i

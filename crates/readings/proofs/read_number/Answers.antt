@@ -3,7 +3,6 @@ use Rattle.grid.proofs.ReadChecks.{small, long, axis_some, read_last}
 use Rattle.grid.specs.Readings.{is_axis, read_refusal}
 use Rattle.limits.specs.Checks.{first, none}
 use Rattle.floats.proofs.Tests.{and_left, and_right}
-use borrow.Author.Tests.{not-true, not-false}
 use Prim.Native.Nat.{◌≤◌, ◌<◌}
 use mathlib.Core.Path.{◌≡◌, sym, ◌∙◌}
 use mathlib.Core.Bool.{true, not, ◌&&◌}

@@ -2,7 +2,6 @@
 use mathlib.Core.Path.{sym, ◌∙◌, ap}
 use mathlib.Core.Bool.{Bool, ◌&&◌}
 use Rattle.floats.specs.Operators.{◌≺◌}
-use borrow.Author.Rules.{rules}
 use Rattle.readings.proofs.rises.Goals as goal
 
 pub returns-then-is_finite : goal.returns-then-is_finite

@@ -1,5 +1,5 @@
 -- `replay::bits_of`: what equals itself is no not-a-number, so it has a pattern. Assumes nothing.
-use Rattle.std.proofs.Common.{Bool, not, T, sym, ◌∙◌, subst, rules}
+use Rattle.std.proofs.Common.{Bool, not, T, sym, ◌∙◌, subst}
 use Rattle.floats.proofs.Signs.{nan_is}
 use Rattle.replay.proofs.bits_of.Goals as goal
 

@@ -1,5 +1,5 @@
 -- `replay::float_of`: below the sign, the not-a-number patterns are those above infinity's. Assumes nothing.
-use Rattle.std.proofs.Common.{rules, le-ltb}
+use Rattle.std.proofs.Common.{le-ltb}
 use lib.Ieee.Bits.{nan_bits_above}
 use Rattle.replay.proofs.float_of.Goals as goal
 

@@ -1,5 +1,5 @@
 -- `replay::kind_of`: the kinds from 0 to 18, one after the other. Assumes nothing.
-use Rattle.std.proofs.Common.{◌-◌, ◌≤◌, arith, rules}
+use Rattle.std.proofs.Common.{◌-◌, ◌≤◌}
 use Rattle.replay.proofs.kind_of.Given as goal
 
 abbrev pub invariant-loop-kind : goal.invariant-loop-kind

@@ -1,5 +1,5 @@
 -- `replay::main`: at most 100,000 lines, so that their number does not wrap. Assumes nothing.
-use Rattle.std.proofs.Common.{◌-◌, ◌≤◌, arith, rules}
+use Rattle.std.proofs.Common.{◌-◌, ◌≤◌}
 use Rattle.replay.proofs.main.Given as goal
 
 abbrev pub invariant-loop-number : goal.invariant-loop-number

@@ -1,5 +1,5 @@
 -- `replay::print_totals`: the kinds from 0 to 19, one after the other, each inside the tallies. Assumes nothing.
-use Rattle.std.proofs.Common.{◌-◌, ◌≤◌, arith, rules}
+use Rattle.std.proofs.Common.{◌-◌, ◌≤◌}
 use Rattle.replay.proofs.print_totals.Given as goal
 
 abbrev pub invariant-loop-kind : goal.invariant-loop-kind

@@ -1,5 +1,5 @@
 -- `replay::word`: the index stays below 17 * at + 17, inside the line. Assumes nothing.
-use Rattle.std.proofs.Common.{◌-◌, ◌≤◌, arith, rules}
+use Rattle.std.proofs.Common.{◌-◌, ◌≤◌}
 use Rattle.replay.proofs.word.Given as goal
 
 abbrev pub invariant-loop-i : goal.invariant-loop-i

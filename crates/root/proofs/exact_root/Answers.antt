@@ -1,8 +1,7 @@
 use mathlib.Core.Path.{◌≡◌, sym, ap, ◌∙◌}
-use Prim.Native.Nat.{ℕ, ◌+◌, ◌-◌, ◌*◌, ◌^◌, ◌≤◌}
+use Prim.Native.Nat.{ℕ, ◌+◌, ◌*◌, ◌^◌}
 use native.Mathlib.Omega.{arith}
 use native.Mathlib.Nat.{mul-one, add-zero}
-use borrow.Author.Rules.{rules}
 use Rattle.root.proofs.Squares.{below_60, grow, grown_lt}
 use Rattle.root.proofs.exact_root.Goals as goal
 

@@ -1,10 +1,6 @@
 -- `root::exact_root`: after n rounds q * q + rem is t * 4^n (Squares). Assumes nothing.
-use mathlib.Core.Path.{◌≡◌, sym, ap, ◌∙◌}
-use Prim.Native.Nat.{ℕ, ◌+◌, ◌-◌, ◌*◌, ◌^◌, ◌≤◌}
-use native.Mathlib.Omega.{arith}
-use native.Mathlib.Nat.{mul-one, add-zero}
-use borrow.Author.Rules.{rules}
-use Rattle.root.proofs.Squares.{below_60, grow, grown_lt}
+use mathlib.Core.Path.{◌≡◌}
+use Prim.Native.Nat.{◌+◌, ◌-◌, ◌*◌, ◌^◌, ◌≤◌}
 use Rattle.root.proofs.exact_root.Given as goal
 
 abbrev pub invariant-loop-n : goal.invariant-loop-n

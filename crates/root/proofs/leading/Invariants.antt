@@ -1,9 +1,6 @@
 -- `root::leading`: with i pairs of digits to come, q * q + rem is t without its last 2i digits (Squares). Assumes nothing.
-use mathlib.Core.Path.{◌≡◌, sym, ap, ◌∙◌}
-use Prim.Native.Nat.{ℕ, ◌+◌, ◌-◌, ◌*◌, ◌/◌, ◌%◌, ◌^◌, ◌≤◌}
-use native.Mathlib.Omega.{arith}
-use native.Mathlib.Nat.{div-one}
-use Rattle.root.proofs.Squares.{below_60, all_shifted, digit, shrunk_lt}
+use mathlib.Core.Path.{◌≡◌}
+use Prim.Native.Nat.{◌+◌, ◌*◌, ◌/◌, ◌^◌, ◌≤◌}
 use Rattle.root.proofs.leading.Given as goal
 
 abbrev pub invariant-loop-i : goal.invariant-loop-i

@@ -1,5 +1,4 @@
 -- `root::radicand`: the test is that of the definition. Assumes nothing.
-use borrow.Author.Rules.{rules}
 use borrow.Author.Tests.{eq-eqb, ne_eqb}
 use Prim.Native.Nat.{◌%◌}
 use Rattle.root.proofs.radicand.Goals as goal

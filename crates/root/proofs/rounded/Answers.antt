@@ -3,7 +3,6 @@ use mathlib.Core.Path.{◌≡◌}
 use Prim.Native.Nat.{ℕ, ◌+◌, ◌*◌, ◌/◌, ◌^◌, ◌≤◌, ◌<◌}
 use native.Mathlib.Omega.{arith}
 use native.Mathlib.Nat.{mul-le-mul}
-use borrow.Author.Rules.{rules}
 use Rattle.root.specs.Root.{whole_root}
 use Rattle.root.proofs.Squares.{IsRoot, whole_root_is, whole_root_unique}
 use Rattle.root.proofs.rounded.Goals as goal

@@ -1,6 +1,5 @@
 -- `root::step`: a digit is 1 where the rest is enough for it, and what is left is at most twice the root. Assumes nothing.
 use native.Mathlib.Omega.{arith}
-use borrow.Author.Rules.{rules}
 use Rattle.root.proofs.step.Goals as goal
 
 pub returns-then-q-r : goal.returns-then-q-r

@@ -1,6 +1,5 @@
 -- `rounds::accepts`: the same operations. Assumes nothing.
 use lib.Ieee.{of_bits, round}
-use borrow.Author.Rules.{rules}
 use Rattle.brent.specs.Brent.{accepts}
 use Rattle.rounds.proofs.accepts.Goals as goal
 

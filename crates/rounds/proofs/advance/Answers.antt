@@ -1,6 +1,5 @@
 -- `rounds::advance`: the same operations, by what each call ensures. Assumes nothing.
 use lib.Ieee.{of_bits, round}
-use borrow.Author.Rules.{rules}
 use Rattle.brent.specs.Brent.{advance}
 use Rattle.rounds.proofs.advance.Goals as goal
 

@@ -1,6 +1,5 @@
 -- `rounds::converged`: the second test is made only where the first failed. Assumes nothing.
 use lib.Ieee.{of_bits, round}
-use borrow.Author.Rules.{rules}
 use Rattle.brent.specs.Brent.{converged}
 use Rattle.rounds.proofs.converged.Goals as goal
 

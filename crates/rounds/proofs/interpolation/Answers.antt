@@ -1,6 +1,5 @@
 -- `rounds::interpolation`: the same operations on either side of the test. Assumes nothing.
 use lib.Ieee.{of_bits, round}
-use borrow.Author.Rules.{rules}
 use Rattle.brent.specs.Brent.{by_line, by_parabola, interpolation}
 use Rattle.rounds.proofs.interpolation.Goals as goal
 

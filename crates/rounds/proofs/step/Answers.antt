@@ -1,5 +1,4 @@
 -- `rounds::step`: the test decides as the definition says. Assumes nothing.
-use borrow.Author.Rules.{rules}
 use Rattle.brent.specs.Brent.{step}
 use Rattle.rounds.proofs.step.Goals as goal
 

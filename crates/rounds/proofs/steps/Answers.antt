@@ -1,5 +1,4 @@
 -- `rounds::steps`: the interpolation is made only where it is tried, and kept only where it is accepted. Assumes nothing.
-use borrow.Author.Rules.{rules}
 use Rattle.brent.specs.Brent.{steps}
 use Rattle.rounds.proofs.steps.Goals as goal
 

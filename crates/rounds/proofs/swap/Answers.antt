@@ -1,7 +1,6 @@
 -- `rounds::swap`: the test decides as the definition says. Assumes nothing.
 use mathlib.Core.Path.{◌≡◌}
 use mathlib.Core.Bool.{true, false}
-use borrow.Author.Rules.{rules}
 use Rattle.floats.specs.Operators.{◌≺◌}
 use Rattle.floats.specs.Values.{magnitude}
 use Rattle.brent.specs.Brent.{swap}

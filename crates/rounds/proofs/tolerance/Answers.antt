@@ -1,6 +1,5 @@
 -- `rounds::tolerance`: the same operations; the literals are the nearest floats, by computation. Assumes nothing.
 use lib.Ieee.{of_bits, round}
-use borrow.Author.Rules.{rules}
 use Rattle.brent.specs.Brent.{tolerance}
 use Rattle.rounds.proofs.tolerance.Goals as goal
 

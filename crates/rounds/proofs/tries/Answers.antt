@@ -1,5 +1,4 @@
 -- `rounds::tries`: the second test is made only where the first passed. Assumes nothing.
-use borrow.Author.Rules.{rules}
 use Rattle.brent.specs.Brent.{tries}
 use Rattle.rounds.proofs.tries.Goals as goal
 

@@ -3,7 +3,6 @@ use lib.Ieee.{of_bits, round}
 use Rattle.brent.specs.Outcome.{zeros}
 use Rattle.blackscholes.specs.Implied.{outcome_of_implied}
 use Rattle.ledger.specs.Rows.{evidence_of}
-use borrow.Author.Rules.{rules}
 use Rattle.rows.proofs.evidence_of.Goals as goal
 
 pub returns-in-Found : goal.returns-in-Found

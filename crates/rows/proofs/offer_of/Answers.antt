@@ -1,6 +1,5 @@
 -- `rows::offer_of`: the rows entry by entry. Assumes nothing.
 use Rattle.ledger.specs.Rows.{offer_of}
-use borrow.Author.Rules.{rules}
 use Rattle.rows.proofs.offer_of.Goals as goal
 
 pub returns : goal.returns

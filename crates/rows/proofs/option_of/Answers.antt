@@ -1,6 +1,5 @@
 -- `rows::option_of`: the fields as they are passed. Assumes nothing.
 use Rattle.ledger.specs.Rows.{option_of}
-use borrow.Author.Rules.{rules}
 use Rattle.rows.proofs.option_of.Goals as goal
 
 pub returns : goal.returns

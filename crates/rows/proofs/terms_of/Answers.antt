@@ -1,5 +1,4 @@
 -- `rows::terms_of`: an arm for each kind of terms. Assumes nothing.
-use borrow.Author.Rules.{rules}
 use Rattle.rows.proofs.terms_of.Goals as goal
 
 pub returns-then-is_price : goal.returns-then-is_price

@@ -4,7 +4,6 @@ use mathlib.Core.Bool.{Bool, true, false}
 use native.Mathlib.Omega.{arith}
 use lib.Ieee.{Float}
 use borrow.Author.Tests.{eq-eqb, ne_eqb}
-use borrow.Author.Rules.{rules}
 use Rattle.limits.specs.Checks.{first}
 use Rattle.brent.specs.declared.Solver.{Solver}
 use Rattle.brent.specs.Outcome.{outcome}

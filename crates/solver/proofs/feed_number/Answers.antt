@@ -1,5 +1,4 @@
 -- `solver::feed_number`: line for line the definition. Assumes nothing.
-use borrow.Author.Rules.{rules}
 use Rattle.brent.specs.Feed.{feed_number}
 use Rattle.solver.proofs.feed_number.Goals as goal
 

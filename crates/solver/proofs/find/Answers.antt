@@ -1,5 +1,4 @@
 -- `solver::find`: the answer is read by `outcome`, and the state is over. Assumes nothing.
-use borrow.Author.Rules.{rules}
 use Rattle.brent.specs.Outcome.{outcome}
 use Rattle.brent.specs.Feed.{find}
 use Rattle.solver.proofs.find.Goals as goal

@@ -1,5 +1,4 @@
 -- `solver::in_range`: the same three tests. Assumes nothing.
-use borrow.Author.Rules.{rules}
 use Rattle.brent.specs.Feed.{in_range}
 use Rattle.solver.proofs.in_range.Goals as goal
 

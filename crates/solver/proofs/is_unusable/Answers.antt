@@ -1,6 +1,5 @@
 -- `solver::is_unusable`: the same four tests. Assumes nothing.
 use lib.Ieee.{of_bits, round}
-use borrow.Author.Rules.{rules}
 use Rattle.brent.specs.Feed.{is_unusable}
 use Rattle.solver.proofs.is_unusable.Goals as goal
 

@@ -1,5 +1,4 @@
 -- `solver::refuse`: the answer is read by `outcome`, and the state is over. Assumes nothing.
-use borrow.Author.Rules.{rules}
 use Rattle.brent.specs.Outcome.{outcome}
 use Rattle.brent.specs.Feed.{refuse}
 use Rattle.solver.proofs.refuse.Goals as goal

@@ -1,6 +1,5 @@
 -- `solver::start`: `is_price` is check 5. Assumes nothing.
 use lib.Ieee.{of_bits, round}
-use borrow.Author.Rules.{rules}
 use Rattle.brent.specs.Outcome.{outcome}
 use Rattle.brent.specs.Feed.{start}
 use Rattle.solver.proofs.start.Goals as goal

@@ -2,8 +2,6 @@
 use mathlib.Core.Path.{sym}
 use borrow.Author.Rules.{rules}
 use Rattle.hexlines.proofs.Counting.{begun_none, begun_some}
-use Rattle.streams.proofs.begun.Reads as reads
-use Rattle.streams.proofs.begun.Lts as lts
 use Rattle.streams.proofs.begun.Goals as goal
 
 pub returns-then-line-eq0 : goal.returns-then-line-eq0

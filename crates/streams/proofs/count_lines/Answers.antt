@@ -1,9 +1,4 @@
-use Prim.Native.Nat.{◌+◌, ◌-◌, ◌≤◌}
-use mathlib.Core.Path.{◌≡◌}
 use native.Mathlib.Omega.{arith}
-use lib.ListN.{length, drop}
-use borrow.Author.Rules.{rules}
-use Rattle.hexlines.specs.Lines.{feeds}
 use Rattle.hexlines.proofs.Counting.{counted_on, counted_end}
 use Rattle.streams.proofs.count_lines.Goals as goal
 

@@ -1,11 +1,8 @@
 -- `streams::count_lines`: what the bytes to come will add to the count is the same at each turn. Assumes nothing.
 use Prim.Native.Nat.{◌+◌, ◌-◌, ◌≤◌}
 use mathlib.Core.Path.{◌≡◌}
-use native.Mathlib.Omega.{arith}
 use lib.ListN.{length, drop}
-use borrow.Author.Rules.{rules}
 use Rattle.hexlines.specs.Lines.{feeds}
-use Rattle.hexlines.proofs.Counting.{counted_on, counted_end}
 use Rattle.streams.proofs.count_lines.Given as goal
 
 abbrev pub invariant-loop-i : goal.invariant-loop-i

@@ -1,5 +1,4 @@
 -- `streams::push`: the byte goes in at the count, where there is room. Assumes nothing.
-use borrow.Author.Rules.{rules}
 use borrow.Author.Tests.{lt-ltb, le-ltb}
 use Rattle.hexlines.specs.Lines.{pushed}
 use Rattle.streams.proofs.push.Goals as goal

@@ -1,10 +1,5 @@
-use Prim.Native.Nat.{◌-◌}
-use mathlib.Core.Path.{◌≡◌, refl, ◌∙◌}
-use native.Mathlib.Omega.{arith}
-use lib.ListN.{length}
-use Rattle.hexlines.specs.Lines.{taken}
+use mathlib.Core.Path.{◌∙◌}
 use Rattle.hexlines.proofs.Taking.{taken_feed, taken_on, taken_end}
-use borrow.Author.Rules.{rules}
 use Rattle.streams.proofs.take_line.Goals as goal
 
 pub returns-then-b-eq10 : goal.returns-then-b-eq10

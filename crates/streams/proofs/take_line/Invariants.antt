@@ -1,11 +1,8 @@
 -- `streams::take_line`: what is left to take from the place on is what was to be taken at first. Assumes nothing.
 use Prim.Native.Nat.{◌-◌}
-use mathlib.Core.Path.{◌≡◌, refl, ◌∙◌}
-use native.Mathlib.Omega.{arith}
+use mathlib.Core.Path.{◌≡◌}
 use lib.ListN.{length}
 use Rattle.hexlines.specs.Lines.{taken}
-use Rattle.hexlines.proofs.Taking.{taken_feed, taken_on, taken_end}
-use borrow.Author.Rules.{rules}
 use Rattle.streams.proofs.take_line.Given as goal
 
 abbrev pub invariant-loop-i : goal.invariant-loop-i

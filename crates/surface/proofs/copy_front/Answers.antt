@@ -1,9 +1,8 @@
 use Rattle.chart.proofs.Gap.{copy_step}
 use lib.Seq.{take-length}
-use Prim.Native.Nat.{◌-◌, ◌≤◌, ◌<◌}
+use Prim.Native.Nat.{◌<◌}
 use mathlib.Core.Path.{◌≡◌, refl}
-use mathlib.Core.List.{◌++◌}
-use lib.ListN.{length, take, drop, length-set}
+use lib.ListN.{length, length-set}
 use native.Mathlib.Omega.{arith}
 use Rattle.surface.proofs.copy_front.Goals as goal
 

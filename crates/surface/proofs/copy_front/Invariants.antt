@@ -1,11 +1,8 @@
 -- `surface::copy_front`: a loop that copies one value more in each round. Assumes nothing.
-use Rattle.chart.proofs.Gap.{copy_step}
-use lib.Seq.{take-length}
-use Prim.Native.Nat.{◌-◌, ◌≤◌, ◌<◌}
-use mathlib.Core.Path.{◌≡◌, refl}
+use Prim.Native.Nat.{◌-◌, ◌≤◌}
+use mathlib.Core.Path.{◌≡◌}
 use mathlib.Core.List.{◌++◌}
-use lib.ListN.{length, take, drop, length-set}
-use native.Mathlib.Omega.{arith}
+use lib.ListN.{length, take, drop}
 use Rattle.surface.proofs.copy_front.Given as goal
 
 abbrev pub invariant-loop-i : goal.invariant-loop-i

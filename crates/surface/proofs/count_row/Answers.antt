@@ -1,7 +1,6 @@
-use Rattle.grid.proofs.Rows.{Written, write_start, write_step, write_end}
-use Prim.Native.Nat.{◌+◌, ◌-◌, ◌≤◌}
-use mathlib.Core.Path.{◌≡◌, refl}
-use lib.ListN.{length, get_or, length-set}
+use Rattle.grid.proofs.Rows.{write_start, write_step, write_end}
+use mathlib.Core.Path.{refl}
+use lib.ListN.{length-set}
 use native.Mathlib.Omega.{arith}
 use Rattle.surface.proofs.count_row.Goals as goal
 

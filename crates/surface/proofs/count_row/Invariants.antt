@@ -1,9 +1,8 @@
 -- `surface::count_row`: a loop that writes the counts of a row one after the other. Assumes nothing.
-use Rattle.grid.proofs.Rows.{Written, write_start, write_step, write_end}
+use Rattle.grid.proofs.Rows.{Written}
 use Prim.Native.Nat.{◌+◌, ◌-◌, ◌≤◌}
-use mathlib.Core.Path.{◌≡◌, refl}
-use lib.ListN.{length, get_or, length-set}
-use native.Mathlib.Omega.{arith}
+use mathlib.Core.Path.{◌≡◌}
+use lib.ListN.{length, get_or}
 use Rattle.surface.proofs.count_row.Given as goal
 
 abbrev pub invariant-loop-j : goal.invariant-loop-j

@@ -1,8 +1,7 @@
-use Rattle.grid.specs.Search.{first_where}
 use Rattle.grid.proofs.First.{first_most, take_upto, take_past}
 use Rattle.chart.proofs.Halves.{above_rises}
 use Rattle.floats.specs.Operators.{◌≺◌}
-use Prim.Native.Nat.{◌+◌, ◌-◌, ◌/◌, ◌≤◌, ◌<◌}
+use Prim.Native.Nat.{◌+◌, ◌-◌, ◌/◌, ◌<◌}
 use lib.ListN.{take}
 use lib.Seq.{length-take-le}
 use lib.Ieee.{nan}

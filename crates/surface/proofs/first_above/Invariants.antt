@@ -1,13 +1,8 @@
 -- `surface::first_above`: the first value above x stays in `at` to `at + size`, as the values ascend (`above_rises`). Assumes nothing.
 use Rattle.grid.specs.Search.{first_where}
-use Rattle.grid.proofs.First.{first_most, take_upto, take_past}
-use Rattle.chart.proofs.Halves.{above_rises}
 use Rattle.floats.specs.Operators.{◌≺◌}
-use Prim.Native.Nat.{◌+◌, ◌-◌, ◌/◌, ◌≤◌, ◌<◌}
+use Prim.Native.Nat.{◌+◌, ◌≤◌}
 use lib.ListN.{take}
-use lib.Seq.{length-take-le}
-use lib.Ieee.{nan}
-use native.Mathlib.Omega.{arith}
 use Rattle.surface.proofs.first_above.Given as goal
 
 abbrev pub invariant-loop-size : goal.invariant-loop-size

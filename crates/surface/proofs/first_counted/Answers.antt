@@ -1,5 +1,5 @@
-use Rattle.chart.proofs.Neighbour.{Seeking, seek_start, seek_on, seek_hit, seek_end}
-use Prim.Native.Nat.{◌+◌, ◌-◌, ◌≤◌}
+use Rattle.chart.proofs.Neighbour.{seek_start, seek_on, seek_hit, seek_end}
+use Prim.Native.Nat.{◌+◌}
 use lib.ListN.{get_or}
 use native.Mathlib.Omega.{arith}
 use Rattle.surface.proofs.first_counted.Goals as goal

@@ -1,8 +1,7 @@
 -- `surface::first_counted`: the search stops at the first counted column. Assumes nothing.
-use Rattle.chart.proofs.Neighbour.{Seeking, seek_start, seek_on, seek_hit, seek_end}
+use Rattle.chart.proofs.Neighbour.{Seeking}
 use Prim.Native.Nat.{◌+◌, ◌-◌, ◌≤◌}
 use lib.ListN.{get_or}
-use native.Mathlib.Omega.{arith}
 use Rattle.surface.proofs.first_counted.Given as goal
 
 abbrev pub invariant-loop-j : goal.invariant-loop-j

@@ -6,7 +6,6 @@ use Rattle.chart.proofs.Twins.{standing_alike}
 use Prim.Native.Nat.{◌≤◌}
 use native.Mathlib.Nat.{le_trans}
 use lib.ListN.{length, take}
-use borrow.Author.Rules.{rules}
 use native.Mathlib.Omega.{arith}
 use Rattle.surface.proofs.insert_into.Goals as goal
 

@@ -1,7 +1,6 @@
 -- `surface::make_axis`: sorted, each value once, then thinned. Assumes nothing.
 use mathlib.Core.Path.{◌∙◌}
 use native.Mathlib.Nat.{le_trans}
-use borrow.Author.Rules.{rules}
 use Rattle.surface.proofs.make_axis.Goals as goal
 
 pub returns : goal.returns

@@ -1,7 +1,6 @@
 -- `surface::mean`: the count of at most 32 bits is a float. Assumes nothing.
 use mathlib.Core.Path.{refl}
 use lib.Ieee.{of_int}
-use borrow.Author.Rules.{rules}
 use Rattle.surface.proofs.mean.Goals as goal
 
 pub returns : goal.returns

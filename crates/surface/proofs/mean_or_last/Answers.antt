@@ -1,6 +1,5 @@
 -- `surface::mean_or_last`: the branch that its test chose. Assumes nothing.
 use borrow.Author.Tests.{ne_eqb, eq-eqb}
-use borrow.Author.Rules.{rules}
 use Rattle.surface.proofs.mean_or_last.Goals as goal
 
 pub returns-then-number-eq0 : goal.returns-then-number-eq0

@@ -1,7 +1,6 @@
 use Rattle.chart.proofs.Gap.{opened, gap_step, gap_end}
-use Prim.Native.Nat.{◌-◌, ◌≤◌, ◌<◌}
 use mathlib.Core.Path.{◌≡◌, refl, ◌∙◌}
-use lib.ListN.{length, length-set}
+use lib.ListN.{length-set}
 use native.Mathlib.Omega.{arith}
 use Rattle.surface.proofs.open_gap.Goals as goal
 

@@ -1,9 +1,8 @@
 -- `surface::open_gap`: opening the gap at j with what is carried gives what opening it at p with x gives. Assumes nothing.
-use Rattle.chart.proofs.Gap.{opened, gap_step, gap_end}
+use Rattle.chart.proofs.Gap.{opened}
 use Prim.Native.Nat.{◌-◌, ◌≤◌, ◌<◌}
-use mathlib.Core.Path.{◌≡◌, refl, ◌∙◌}
-use lib.ListN.{length, length-set}
-use native.Mathlib.Omega.{arith}
+use mathlib.Core.Path.{◌≡◌}
+use lib.ListN.{length}
 use Rattle.surface.proofs.open_gap.Given as goal
 
 abbrev pub invariant-loop-j : goal.invariant-loop-j

@@ -1,8 +1,7 @@
-use Rattle.grid.specs.Search.{first_where}
 use Rattle.grid.proofs.First.{first_most, first_upto, first_past}
 use Rattle.chart.specs.Steps.{reaches}
 use Rattle.chart.proofs.Halves.{reach_rises, place_by_halves}
-use Prim.Native.Nat.{◌+◌, ◌-◌, ◌/◌, ◌≤◌, ◌<◌}
+use Prim.Native.Nat.{◌+◌, ◌-◌, ◌/◌, ◌<◌}
 use mathlib.Core.Path.{sym, ◌∙◌}
 use lib.ListN.{length}
 use lib.Ieee.{nan}

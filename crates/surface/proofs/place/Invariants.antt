@@ -1,14 +1,9 @@
 -- `surface::place`: the first value that takes x or is above it stays in `at` to `at + size` (`reach_rises`), and takes x (`place_by_halves`).
 -- Assumes nothing.
 use Rattle.grid.specs.Search.{first_where}
-use Rattle.grid.proofs.First.{first_most, first_upto, first_past}
 use Rattle.chart.specs.Steps.{reaches}
-use Rattle.chart.proofs.Halves.{reach_rises, place_by_halves}
-use Prim.Native.Nat.{◌+◌, ◌-◌, ◌/◌, ◌≤◌, ◌<◌}
-use mathlib.Core.Path.{sym, ◌∙◌}
+use Prim.Native.Nat.{◌+◌, ◌≤◌}
 use lib.ListN.{length}
-use lib.Ieee.{nan}
-use native.Mathlib.Omega.{arith}
 use Rattle.surface.proofs.place.Given as goal
 
 abbrev pub invariant-loop-size : goal.invariant-loop-size

@@ -6,7 +6,6 @@ use Rattle.chart.proofs.Made.{strikes_positive, expiries_positive, strikes_made,
 use Prim.Native.Nat.{ℕ, ◌≤◌}
 use mathlib.Core.Path.{◌≡◌, sym, ◌∙◌}
 use lib.ListN.{length}
-use borrow.Author.Rules.{rules}
 use native.Mathlib.Omega.{arith}
 use Rattle.surface.proofs.prepare.Goals as goal
 

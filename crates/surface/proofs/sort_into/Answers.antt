@@ -1,10 +1,7 @@
 use Rattle.chart.proofs.Sorting.{sort_step, sort_end}
-use Rattle.chart.specs.Axis.{sorted_into, thinned, axis}
-use Rattle.chart.specs.Steps.{Ascending}
 use Rattle.chart.proofs.Ordered.{pos_at}
-use Prim.Native.Nat.{◌-◌, ◌≤◌}
-use mathlib.Core.Path.{◌≡◌, refl, ◌∙◌}
-use lib.ListN.{length, take, drop}
+use mathlib.Core.Path.{refl, ◌∙◌}
+use lib.ListN.{take}
 use native.Mathlib.Omega.{arith}
 use Rattle.surface.proofs.sort_into.Goals as goal
 

@@ -1,12 +1,9 @@
 -- `surface::sort_into`: what is in use, with the rest inserted into it, gives the axis of all. Assumes nothing.
-use Rattle.chart.proofs.Sorting.{sort_step, sort_end}
 use Rattle.chart.specs.Axis.{sorted_into, thinned, axis}
 use Rattle.chart.specs.Steps.{Ascending}
-use Rattle.chart.proofs.Ordered.{pos_at}
 use Prim.Native.Nat.{◌-◌, ◌≤◌}
-use mathlib.Core.Path.{◌≡◌, refl, ◌∙◌}
+use mathlib.Core.Path.{◌≡◌}
 use lib.ListN.{length, take, drop}
-use native.Mathlib.Omega.{arith}
 use Rattle.surface.proofs.sort_into.Given as goal
 
 abbrev pub invariant-loop-i : goal.invariant-loop-i

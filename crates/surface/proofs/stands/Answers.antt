@@ -2,7 +2,6 @@
 use mathlib.Core.Path.{sym}
 use mathlib.Core.Bool.{true≢false}
 use native.Mathlib.Omega.{arith}
-use borrow.Author.Rules.{rules}
 use Rattle.surface.proofs.stands.Goals as goal
 
 pub returns-then-p-eq0 : goal.returns-then-p-eq0

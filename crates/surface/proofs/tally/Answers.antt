@@ -1,10 +1,10 @@
-use Rattle.chart.proofs.Filing.{Filing, home_of, file_start, file_few, file_put, file_end}
+use Rattle.chart.proofs.Filing.{home_of, file_start, file_few, file_put, file_end}
 use Rattle.chart.proofs.Kept.{quotes_at, quotes_end, length_quotes}
-use Rattle.chart.specs.Quotes.{Columns, columns_of, quotes}
+use Rattle.chart.specs.Quotes.{Columns, columns_of}
 use Rattle.chart.specs.Axis.{place}
 use Rattle.chart.specs.Cells.{Axes}
 use Rattle.chart.specs.Steps.{axes_of, OnAxis}
-use Prim.Native.Nat.{◌-◌, ◌≤◌, ◌<◌}
+use Prim.Native.Nat.{◌<◌}
 use mathlib.Core.Path.{refl, sym, ◌∙◌}
 use lib.ListN.{get_or}
 use lib.Ieee.{nan}

@@ -1,15 +1,8 @@
 -- `surface::tally`: each quote has its cell, where it is filed. Assumes nothing.
-use Rattle.chart.proofs.Filing.{Filing, home_of, file_start, file_few, file_put, file_end}
-use Rattle.chart.proofs.Kept.{quotes_at, quotes_end, length_quotes}
-use Rattle.chart.specs.Quotes.{Columns, columns_of, quotes}
-use Rattle.chart.specs.Axis.{place}
-use Rattle.chart.specs.Cells.{Axes}
-use Rattle.chart.specs.Steps.{axes_of, OnAxis}
-use Prim.Native.Nat.{◌-◌, ◌≤◌, ◌<◌}
-use mathlib.Core.Path.{refl, sym, ◌∙◌}
-use lib.ListN.{get_or}
-use lib.Ieee.{nan}
-use native.Mathlib.Omega.{arith}
+use Rattle.chart.proofs.Filing.{Filing}
+use Rattle.chart.specs.Quotes.{columns_of, quotes}
+use Rattle.chart.specs.Steps.{axes_of}
+use Prim.Native.Nat.{◌-◌, ◌≤◌}
 use Rattle.surface.proofs.tally.Given as goal
 
 abbrev pub invariant-loop-i : goal.invariant-loop-i

@@ -1,9 +1,8 @@
 use Rattle.chart.proofs.Sorting.{thin_start, thin_drop, thin_keep, thin_end}
-use Rattle.chart.specs.Axis.{kept_after, thinned}
-use Prim.Native.Nat.{◌-◌, ◌≤◌, ◌<◌}
-use mathlib.Core.Path.{◌≡◌, refl, sym, ◌∙◌}
-use mathlib.Core.List.{◌++◌}
-use lib.ListN.{length, take, drop, length-set}
+use Rattle.chart.specs.Axis.{thinned}
+use Prim.Native.Nat.{◌≤◌, ◌<◌}
+use mathlib.Core.Path.{refl, sym, ◌∙◌}
+use lib.ListN.{length, length-set}
 use lib.Ieee.{of_bits, round}
 use native.Mathlib.Omega.{arith}
 use Rattle.surface.proofs.thin_out.Goals as goal

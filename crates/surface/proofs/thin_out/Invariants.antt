@@ -1,12 +1,9 @@
 -- `surface::thin_out`: what is kept, and what is kept of the rest after the last one kept, is the thinned list. Assumes nothing.
-use Rattle.chart.proofs.Sorting.{thin_start, thin_drop, thin_keep, thin_end}
 use Rattle.chart.specs.Axis.{kept_after, thinned}
-use Prim.Native.Nat.{◌-◌, ◌≤◌, ◌<◌}
-use mathlib.Core.Path.{◌≡◌, refl, sym, ◌∙◌}
+use Prim.Native.Nat.{◌-◌, ◌≤◌}
+use mathlib.Core.Path.{◌≡◌}
 use mathlib.Core.List.{◌++◌}
-use lib.ListN.{length, take, drop, length-set}
-use lib.Ieee.{of_bits, round}
-use native.Mathlib.Omega.{arith}
+use lib.ListN.{length, take, drop}
 use Rattle.surface.proofs.thin_out.Given as goal
 
 abbrev pub invariant-loop-i : goal.invariant-loop-i

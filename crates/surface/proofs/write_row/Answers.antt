@@ -1,9 +1,8 @@
-use Rattle.grid.proofs.Rows.{Written, write_start, write_step, write_end}
+use Rattle.grid.proofs.Rows.{write_start, write_step, write_end}
 use Rattle.grid.proofs.Values.{no_values}
 use Rattle.chart.proofs.Neighbour.{held_step, held_next, held_first, first_below}
-use Rattle.chart.specs.Steps.{held}
-use Prim.Native.Nat.{ℕ, ◌+◌, ◌-◌, ◌≤◌, ◌<◌}
-use mathlib.Core.Path.{◌≡◌, refl}
+use Prim.Native.Nat.{ℕ, ◌+◌, ◌<◌}
+use mathlib.Core.Path.{refl}
 use lib.ListN.{length, get_or, length-set}
 use lib.Ieee.{Float, nan}
 use native.Mathlib.Omega.{arith}

@@ -1,13 +1,10 @@
 -- `surface::write_row`: in each round `last` is what the column before holds. Assumes nothing.
-use Rattle.grid.proofs.Rows.{Written, write_start, write_step, write_end}
-use Rattle.grid.proofs.Values.{no_values}
-use Rattle.chart.proofs.Neighbour.{held_step, held_next, held_first, first_below}
+use Rattle.grid.proofs.Rows.{Written}
 use Rattle.chart.specs.Steps.{held}
-use Prim.Native.Nat.{ℕ, ◌+◌, ◌-◌, ◌≤◌, ◌<◌}
-use mathlib.Core.Path.{◌≡◌, refl}
-use lib.ListN.{length, get_or, length-set}
-use lib.Ieee.{Float, nan}
-use native.Mathlib.Omega.{arith}
+use Prim.Native.Nat.{◌+◌, ◌-◌, ◌≤◌}
+use mathlib.Core.Path.{◌≡◌}
+use lib.ListN.{length, get_or}
+use lib.Ieee.{nan}
 use Rattle.surface.proofs.write_row.Given as goal
 
 abbrev pub invariant-loop-j : goal.invariant-loop-j

@@ -1,15 +1,11 @@
 -- `surface::write_rows`: one row more in each round, lent as a part and given back. Assumes nothing.
-use Rattle.chart.proofs.Tables.{table_step}
-use Rattle.grid.proofs.Rows.{RowWithin, row_within, part_length}
-use borrow.Rule.Slice.PartMut.{same_len_mid}
 use Rattle.chart.specs.Build.{table}
 use Rattle.chart.specs.Steps.{held}
 use Rattle.grid.specs.Layout.{cell_at}
-use Prim.Native.Nat.{◌+◌, ◌-◌, ◌*◌, ◌≤◌}
-use mathlib.Core.Path.{◌≡◌, refl, ◌∙◌}
+use Prim.Native.Nat.{◌-◌, ◌≤◌}
+use mathlib.Core.Path.{◌≡◌}
 use lib.ListN.{length, get_or}
 use lib.Ieee.{nan}
-use native.Mathlib.Omega.{arith}
 use Rattle.surface.proofs.write_rows.Given as goal
 
 abbrev pub invariant-loop-i : goal.invariant-loop-i

@@ -2,7 +2,6 @@
 use lib.Ieee.{of_bits, round}
 use Rattle.blackscholes.specs.Implied.{outcome_of_implied}
 use Rattle.verdicts.proofs.Solver.{itself, solved}
-use borrow.Author.Rules.{rules}
 use Rattle.verdicts.proofs.answer.Goals as goal
 
 pub returns-in-Volatility : goal.returns-in-Volatility

@@ -1,5 +1,4 @@
 -- `verdicts::bad_price`: an arm for each kind of terms. Assumes nothing.
-use borrow.Author.Rules.{rules}
 use Rattle.verdicts.proofs.bad_price.Goals as goal
 
 pub returns-in-Price : goal.returns-in-Price

@@ -1,5 +1,4 @@
 -- `verdicts::bad_volatility`: an arm for each kind of terms. Assumes nothing.
-use borrow.Author.Rules.{rules}
 use Rattle.verdicts.proofs.bad_volatility.Goals as goal
 
 pub returns-in-Volatility : goal.returns-in-Volatility

@@ -12,7 +12,6 @@ use Rattle.ledger.proofs.Sound.{bounds_of}
 use Rattle.verdicts.proofs.Records.{counted, AllPass, all_pass}
 use Rattle.verdicts.proofs.Offering.{by_check, by_terms}
 use Rattle.verdicts.proofs.Solver.{not_found}
-use borrow.Author.Rules.{rules}
 use Rattle.verdicts.proofs.decide.Goals as goal
 
 pub refuse-requires : goal.refuse-requires

@@ -9,7 +9,6 @@ use Rattle.ledger.specs.Book.{book_after}
 use Rattle.ledger.specs.Calls.{Turned}
 use Rattle.ledger.proofs.Sound.{bounds_of}
 use Rattle.verdicts.proofs.Solver.{not_refused}
-use borrow.Author.Rules.{rules}
 use Rattle.verdicts.proofs.hand_on.Goals as goal
 
 pub returns-in_default : goal.returns-in_default

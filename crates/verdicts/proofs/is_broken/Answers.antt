@@ -5,7 +5,6 @@ use mathlib.Core.Bool.{or-true}
 use native.Mathlib.Omega.{arith}
 use borrow.Author.Tests.{lt-ltb, le-ltb, eq-eqb, ne_eqb}
 use Rattle.ledger.specs.Book.{is_broken}
-use borrow.Author.Rules.{rules}
 use Rattle.verdicts.proofs.is_broken.Goals as goal
 
 pub returns-then-b-gt1024 : goal.returns-then-b-gt1024

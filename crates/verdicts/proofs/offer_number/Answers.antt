@@ -1,6 +1,5 @@
 -- `verdicts::offer_number`: line for line the definition. Assumes nothing.
 use Rattle.ledger.specs.Book.{offer_refusal}
-use borrow.Author.Rules.{rules}
 use Rattle.verdicts.proofs.offer_number.Goals as goal
 
 pub returns : goal.returns

@@ -1,6 +1,5 @@
 -- `verdicts::own_number`: line for line the definition. Assumes nothing.
 use Rattle.ledger.specs.Book.{own_refusal}
-use borrow.Author.Rules.{rules}
 use Rattle.verdicts.proofs.own_number.Goals as goal
 
 pub returns : goal.returns
