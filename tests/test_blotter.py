@@ -1,4 +1,4 @@
-"""Tests of the program target/bin/blotter: its own tray in reads of many sizes, 60,000 offers, a line longer than a read, and what it does where it cannot
+"""Tests of the program crates/blotter/out/blotter: its own tray in reads of many sizes, 60,000 offers, a line longer than a read, and what it does where it cannot
 read or write. Run: python3 tests/test_blotter.py"""
 
 import os
@@ -16,7 +16,7 @@ sys.dont_write_bytecode = True
 import transcriptions
 
 ROOT = Path(__file__).resolve().parent.parent
-PROGRAM = Path(os.environ.get('KITESETTEE_BLOTTER') or ROOT / 'target/bin/blotter')
+PROGRAM = Path(os.environ.get('KITESETTEE_BLOTTER') or ROOT / 'crates/blotter/out/blotter')
 OWN = ROOT / 'crates/blotter'
 READ = 65536
 own = transcriptions.of('blotter')

@@ -1,4 +1,4 @@
-"""Tests of the program target/bin/desk: document 01's example, the long trays of crates/lines_test, what it does where it cannot read or write, and
+"""Tests of the program crates/desk/out/desk: document 01's example, the long trays of crates/lines_test, what it does where it cannot read or write, and
 what docs/LINES.md says of it. Run: python3 tests/test_desk.py"""
 
 import os
@@ -13,7 +13,7 @@ import lines_document
 import transcriptions
 
 ROOT = Path(__file__).resolve().parent.parent
-PROGRAM = Path(os.environ.get('KITESETTEE_DESK') or ROOT / 'target/bin/desk')
+PROGRAM = Path(os.environ.get('KITESETTEE_DESK') or ROOT / 'crates/desk/out/desk')
 LONG = ROOT / 'crates/lines_test'
 OWN = ROOT / 'crates/desk'
 
