@@ -1,5 +1,5 @@
-"""Tests of the program crates/blotter/out/blotter: its own tray in reads of many sizes, 60,000 offers, a line longer than a read, and what it does where it cannot
-read or write. Run: python3 tests/test_blotter.py"""
+"""Tests of the program crates/blotter/out/blotter: its own tray in reads of many sizes, 60,000 offers, a line longer than a read, and what it does where
+it cannot read or write. Run: python3 tests/test_blotter.py"""
 
 import os
 import resource
@@ -78,7 +78,7 @@ class Blotter(unittest.TestCase):
         self.assertEqual(self.run_blotter(b'\n'.join(lines)).stdout, self.answers(*lines))
 
     def test_no_input_can_be_read(self):
-        """It says so and ends, with status 0: the language has no other."""
+        """It says so and ends, with status 0."""
         folder = os.open(ROOT, os.O_RDONLY)
         run = subprocess.run([PROGRAM], stdin=folder, capture_output=True, timeout=60)
         os.close(folder)

@@ -1,5 +1,5 @@
-"""Tests of the program crates/desk/out/desk: document 01's example, the long trays of crates/lines_test, what it does where it cannot read or write, and
-what docs/LINES.md says of it. Run: python3 tests/test_desk.py"""
+"""Tests of the program crates/desk/out/desk: document 01's example, the long trays of crates/lines_test, what it does where it cannot read or write,
+and what docs/LINES.md says of it. Run: python3 tests/test_desk.py"""
 
 import os
 import signal
@@ -97,7 +97,7 @@ class Desk(unittest.TestCase):
         self.assertEqual(desk.wait(), 0)
 
     def test_no_input_can_be_read(self):
-        """It says so and ends, with status 0: the language has no other."""
+        """It says so and ends, with status 0."""
         folder = os.open(ROOT, os.O_RDONLY)
         run = subprocess.run([PROGRAM], stdin=folder, capture_output=True, timeout=60)
         os.close(folder)
