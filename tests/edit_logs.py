@@ -59,6 +59,8 @@ def main(words):
             put_back(crate)
             log.write_text(run.stdout)
             why = 'it is proved' if not run.returncode else 'more definitions opened would do' if 'was admitted by the kernel' in run.stdout else ''
+            if not why and ('logic=not-proved' not in run.stdout or ' did not build' in run.stdout):
+                why = 'the prover did not come to it'
             told += bool(why)
             print(f'{name}: {why or "refused"}', flush=True)
     return 1 if told else 0
