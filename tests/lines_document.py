@@ -176,7 +176,7 @@ class Ends(LinesDocument):
 
     def test_a_status_in_a_shell(self):
         run = subprocess.run(['sh', '-c', '{ sleep 0.2; "%s"; echo $? >&2; } < /dev/stdin | :' % PROGRAM], input=b'xx\n', stderr=subprocess.PIPE, timeout=60)
-        self.assertIn(b'141', run.stderr)
+        self.assertEqual(run.stderr, b'desk: cannot write\n0\n')
 
 
 class Sessions(LinesDocument):

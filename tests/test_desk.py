@@ -112,15 +112,15 @@ class Desk(unittest.TestCase):
             self.assertEqual((run.stderr, run.returncode), (b'desk: cannot write\n', 0))
 
     def test_nobody_reads_its_output(self):
-        """The system ends the program at its first write to a closed pipe; where that signal is ignored it is a write that fails."""
-        for action, wanted in ((signal.SIG_DFL, (b'', -signal.SIGPIPE)), (signal.SIG_IGN, (b'desk: cannot write\n', 0))):
+        """A write to a closed pipe fails, whether SIGPIPE is ignored where the program is started or not: its start ignores the signal."""
+        for action in (signal.SIG_DFL, signal.SIG_IGN):
             with self.subTest(action=action):
                 ours, theirs = os.pipe()
                 os.close(ours)
                 before = lambda: signal.signal(signal.SIGPIPE, action)
                 run = subprocess.run([PROGRAM], input=b'xx\n', stdout=theirs, stderr=subprocess.PIPE, timeout=60, preexec_fn=before)
                 os.close(theirs)
-                self.assertEqual((run.stderr, run.returncode), wanted)
+                self.assertEqual((run.stderr, run.returncode), (b'desk: cannot write\n', 0))
 
 
 def load_tests(loader, tests, pattern):
