@@ -104,8 +104,8 @@ fn main() {
         + &module(&root, "surface_noted", "surface", &[surface, of(&NOTES, "surface")], OPENED);
     let out = PathBuf::from(env::var("OUT_DIR").unwrap()).join("fin_primitives.rs");
     fs::write(out, all).unwrap();
-    // Ours, as `rt staticlib host` writes it; only the programs that name it are linked with it.
-    println!("cargo:rustc-link-search=native={}", here.join("../target/staticlib").display());
+    // Ours, as `rt lib` in crates/host writes it; only the programs that name it are linked with it.
+    println!("cargo:rustc-link-search=native={}", here.join("../crates/host/out").display());
     println!("cargo:rustc-link-lib=static=host");
-    println!("cargo:rerun-if-changed={}", here.join("../target/staticlib/libhost.a").display());
+    println!("cargo:rerun-if-changed={}", here.join("../crates/host/out/libhost.a").display());
 }

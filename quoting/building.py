@@ -1,4 +1,4 @@
-"""Proves and builds a program of the repository where it must be: `rt check NAME`, its words in a log, a line for each crate here."""
+"""Proves and builds a program of the repository where it must be: `rt run` in its folder, its words in a log, a line for each crate here."""
 
 import os
 import re
@@ -12,8 +12,11 @@ from contextlib import contextmanager
 from pathlib import Path
 
 ROOT = Path(__file__).resolve().parent.parent
-ENDED = re.compile(r'rt: (\w+) proved \((unchanged)?')
-NOT_PROVED = re.compile(r'rt: \w+ (NOT PROVED|proved, and its run FAILED)')
+# What rt says as it begins a crate, and rattle as it ends one. Of a crate that was proved before rt says nothing.
+BEGUN = re.compile(r'rt: chose --jobs \d+ for (\w+)$')
+PROVED, NOT_PROVED = 'logic=proved ', re.compile(r'logic=(?!proved )|rt: the library \w+ did not build')
+# What rattle counts of each crate besides.
+COUNTED = re.compile(r'(logic|statements|library|axioms|crate) .*[:=]')
 SHOWN, CUT = 12, 400
 
 
@@ -29,13 +32,13 @@ def program(name):
         if not (os.path.isfile(other) and os.access(other, os.X_OK)):
             raise BuildError('%s names %s, which is not a program' % (variable, other))
         return os.path.abspath(other)
-    path, crates = ROOT / 'target' / 'bin' / name, needed(name)
+    path, crates = ROOT / built(name), needed(name)
     why = stale(path, crates)
     if why:
         kit = shutil.which('rt')
         if not kit:
-            raise BuildError('target/bin/%s must be built (%s), and the Rattle kit (rt) that builds it is not on the PATH; '
-                             'put it there, or name a built program in %s' % (name, why, variable))
+            raise BuildError('%s must be built (%s), and the Rattle kit (rt) that builds it is not on the PATH; '
+                             'put it there, or name a built program in %s' % (built(name), why, variable))
         try:
             with alone():
                 # Another run may have built it meanwhile.
@@ -43,8 +46,13 @@ def program(name):
                 if why:
                     build(os.path.abspath(kit), path, crates, why)
         except OSError as error:
-            raise BuildError('target/bin/%s cannot be built: %s: %s' % (name, error.filename or 'rt', error.strerror))
+            raise BuildError('%s cannot be built: %s: %s' % (built(name), error.filename or 'rt', error.strerror))
     return str(path)
+
+
+def built(name):
+    """Where rt leaves a program, from the repository's top."""
+    return 'crates/%s/out/%s' % (name, name)
 
 
 def needed(name):
@@ -56,22 +64,23 @@ def needed(name):
         raise BuildError('%s: %s' % (error.filename, error.strerror))
     for line in text.splitlines():
         crate, colon, rest = line.partition('#')[0].partition(':')
-        if colon:
-            sees[crate.strip()] = rest.split()
+        if colon and crate.strip():
+            # A static library has a word more.
+            sees[crate.split()[0]] = rest.split()
     if name not in sees:
         raise BuildError('crates.txt does not list the program %s' % name)
-    level, order = {}, []
+    met, order = set(), []
 
     def visit(crate):
-        if crate not in level:
-            # A crate that needs itself is told by rt.
-            level[crate] = 0
-            level[crate] = max([visit(below) + 1 for below in sees[crate] if below in sees], default=0)
+        # A crate that needs itself is told by rt.
+        if crate in sees and crate not in met:
+            met.add(crate)
+            for below in sees[crate]:
+                visit(below)
             order.append(crate)
-        return level[crate]
 
     visit(name)
-    return sorted(order, key=level.get)
+    return order
 
 
 def stale(path, crates):
@@ -120,18 +129,19 @@ def build(kit, path, crates, why):
     """Prove and build; raise where that fails."""
     name = path.name
     log = 'target/log/building_%s.txt' % name
-    say('%s: proving %d crates and building target/bin/%s; this may take some minutes, and what the prover says goes to %s' % (
-        why, len(crates), name, log))
+    say('%s: proving %d crates and building %s; this may take some minutes, and what the prover says goes to %s' % (
+        why, len(crates), built(name), log))
     began = time.time()
     begun(name).touch()
     try:
-        status = run([kit, 'check', name], ROOT / log, Progress(crates))
+        # It is run too, on an empty input.
+        status = run([kit, 'run'], ROOT / 'crates' / name, ROOT / log, Progress(crates))
     except KeyboardInterrupt:
         say('interrupted; no prover goes on, and the crates that are proved stay so')
         raise
     if status or not path.is_file():
         sys.stderr.write(''.join('  | %s\n' % line for line in end_of(ROOT / log)))
-        raise BuildError('`rt check %s` ended with status %d; target/bin/%s is not built; %s has all that it said' % (name, status, name, log))
+        raise BuildError('`rt run` in crates/%s ended with status %d; %s is not built; %s has all that it said' % (name, status, built(name), log))
     # A file that changed while this ran is newer than the program.
     os.utime(path, (began, began))
     begun(name).unlink()
@@ -139,7 +149,7 @@ def build(kit, path, crates, why):
 
 def end_of(log):
     """The lines of the log up to the first crate that is not proved, else its last lines."""
-    lines = log.read_text(encoding='utf-8', errors='replace').splitlines()
+    lines = [line for line in log.read_text(encoding='utf-8', errors='replace').splitlines() if not COUNTED.match(line)]
     last = next((i + 1 for i, line in enumerate(lines) if NOT_PROVED.match(line)), len(lines))
     return [line if len(line) <= CUT else line[:CUT] + ' ...' for line in lines[max(0, last - SHOWN):last]]
 
@@ -156,12 +166,14 @@ class Progress:
         return 'quote: %s %d of %d: %s, %d:%02d' % (word, count, len(self.crates), crate, seconds // 60, seconds % 60)
 
     def heard(self, line):
-        """A line of rt."""
-        match = ENDED.match(line)
+        """A line of rt: those before a crate that begins are proved."""
+        match = BEGUN.match(line)
         if match and match[1] in self.left:
-            self.left.remove(match[1])
-            if not self.terminal and not match[2]:
-                print(self.told('proved', len(self.crates) - len(self.left), match[1]), file=sys.stderr, flush=True)
+            self.left = self.left[self.left.index(match[1]):]
+        elif line.startswith(PROVED) and self.left:
+            crate = self.left.pop(0)
+            if not self.terminal:
+                print(self.told('proved', len(self.crates) - len(self.left), crate), file=sys.stderr, flush=True)
 
     def tick(self):
         if self.terminal:
@@ -179,11 +191,11 @@ class Progress:
             sys.stderr.flush()
 
 
-def run(words, log, progress):
-    """The status of a command whose words go to a log; it ends with this process, however this one ends."""
+def run(words, folder, log, progress):
+    """The status of a command in a folder, whose words go to a log; it ends with this process, however this one ends."""
     with open(log, 'wb') as file, ending():
         # rt's provers ignore the terminal's interrupt, so they are a group of their own that is ended from here.
-        process = subprocess.Popen(words, cwd=ROOT, stdin=subprocess.DEVNULL, stdout=subprocess.PIPE, stderr=subprocess.STDOUT, start_new_session=True)
+        process = subprocess.Popen(words, cwd=folder, stdin=subprocess.DEVNULL, stdout=subprocess.PIPE, stderr=subprocess.STDOUT, start_new_session=True)
         try:
             follow(process.stdout.fileno(), file, progress)
             return process.wait()

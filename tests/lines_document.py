@@ -1,4 +1,4 @@
-"""What docs/LINES.md shows and says of the program target/bin/desk. Run by tests/test_desk.py"""
+"""What docs/LINES.md shows and says of the program crates/desk/out/desk. Run by tests/test_desk.py"""
 
 import doctest
 import os
@@ -10,7 +10,7 @@ import unittest
 from pathlib import Path
 
 ROOT = Path(__file__).resolve().parent.parent
-PROGRAM = Path(os.environ.get('KITESETTEE_DESK') or ROOT / 'target/bin/desk')
+PROGRAM = Path(os.environ.get('KITESETTEE_DESK') or ROOT / 'crates/desk/out/desk')
 PAGE = (ROOT / 'docs/LINES.md').read_text(encoding='utf-8')
 CODE = re.findall(r'```python\n(.*?)```', PAGE, re.S)
 NAN = float('nan')
@@ -63,7 +63,7 @@ class Shown(LinesDocument):
         space = {}
         exec(client, space)
         program = str(PROGRAM).replace('\\', '\\\\')
-        test = doctest.DocTestParser().get_doctest(use.replace('target/bin/desk', program), space, 'LINES.md', 'docs/LINES.md', 0)
+        test = doctest.DocTestParser().get_doctest(use.replace('crates/desk/out/desk', program), space, 'LINES.md', 'docs/LINES.md', 0)
         result = doctest.DocTestRunner(verbose=False).run(test)
         self.assertEqual((result.failed, result.attempted), (0, 7))
         self.assertLessEqual(len(client.splitlines()), 28)
@@ -176,7 +176,7 @@ class Ends(LinesDocument):
 
     def test_a_status_in_a_shell(self):
         run = subprocess.run(['sh', '-c', '{ sleep 0.2; "%s"; echo $? >&2; } < /dev/stdin | :' % PROGRAM], input=b'xx\n', stderr=subprocess.PIPE, timeout=60)
-        self.assertIn(b'141', run.stderr)
+        self.assertEqual(run.stderr, b'desk: cannot write\n0\n')
 
 
 class Sessions(LinesDocument):

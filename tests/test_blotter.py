@@ -1,5 +1,5 @@
-"""Tests of the program target/bin/blotter: its own tray in reads of many sizes, 60,000 offers, a line longer than a read, and what it does where it cannot
-read or write. Run: python3 tests/test_blotter.py"""
+"""Tests of the program crates/blotter/out/blotter: its own tray in reads of many sizes, 60,000 offers, a line longer than a read, and what it does where
+it cannot read or write. Run: python3 tests/test_blotter.py"""
 
 import os
 import resource
@@ -16,7 +16,7 @@ sys.dont_write_bytecode = True
 import transcriptions
 
 ROOT = Path(__file__).resolve().parent.parent
-PROGRAM = Path(os.environ.get('KITESETTEE_BLOTTER') or ROOT / 'target/bin/blotter')
+PROGRAM = Path(os.environ.get('KITESETTEE_BLOTTER') or ROOT / 'crates/blotter/out/blotter')
 OWN = ROOT / 'crates/blotter'
 READ = 65536
 own = transcriptions.of('blotter')
@@ -78,7 +78,7 @@ class Blotter(unittest.TestCase):
         self.assertEqual(self.run_blotter(b'\n'.join(lines)).stdout, self.answers(*lines))
 
     def test_no_input_can_be_read(self):
-        """It says so and ends, with status 0: the language has no other."""
+        """It says so and ends, with status 0."""
         folder = os.open(ROOT, os.O_RDONLY)
         run = subprocess.run([PROGRAM], stdin=folder, capture_output=True, timeout=60)
         os.close(folder)

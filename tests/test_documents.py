@@ -12,7 +12,7 @@ sys.path.insert(0, str(ROOT))
 from quoting import refusals
 
 TRACE = (ROOT / 'docs/TRACE.md').read_text()
-CRATES = [line.split(':')[0] for line in (ROOT / 'crates.txt').read_text().splitlines() if re.match(r'\w+:', line)]
+CRATES = re.findall(r'^(\w+)(?: staticlib)?:', (ROOT / 'crates.txt').read_text(), re.M)
 EDITS = {(file.parent.parent.name, file.stem) for file in ROOT.glob('crates/*/must-fail/*.edit')}
 
 

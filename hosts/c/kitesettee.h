@@ -1,9 +1,9 @@
 /*
  * kitesettee.h: option quotes that cannot be silently wrong, for C and C++.
  *
- * Link with target/staticlib/libhost.a, which `rt staticlib host` writes in the repository (x86-64 Linux; it needs no other library):
+ * Link with crates/host/out/libhost.a, which `rt lib` in crates/host writes (x86-64 Linux; it needs no other library):
  *
- *     cc -I hosts/c desk.c target/staticlib/libhost.a -o desk
+ *     cc -I hosts/c desk.c crates/host/out/libhost.a -o desk
  *
  * Every function answers every input, not-a-number and infinity included: it returns 0 and writes its values, or it returns one number of
  * the refusals below, writes 0 in place of each value, and leaves the other memory it was lent as it was. The functions are proved equal,

@@ -1,4 +1,4 @@
-//! Links libhost.a, the proved library: the file or the folder that KITESETTEE_LIB names, else target/staticlib of the repository.
+//! Links libhost.a, the proved library: the file or the folder that KITESETTEE_LIB names, else crates/host/out of the repository.
 use std::{
     env,
     path::{Path, PathBuf},
@@ -22,7 +22,7 @@ fn library() -> PathBuf {
                 given
             }
         }
-        None => Path::new(env!("CARGO_MANIFEST_DIR")).join("../../target/staticlib").join(NAME),
+        None => Path::new(env!("CARGO_MANIFEST_DIR")).join("../../crates/host/out").join(NAME),
     }
 }
 
@@ -40,7 +40,7 @@ fn main() {
         stop(&format!("KITESETTEE_LIB names {}, which is neither a folder nor a file {NAME}", file.display()));
     }
     let Ok(file) = file.canonicalize() else {
-        stop(&format!("{} is missing: run `rt staticlib host` in the repository, or set KITESETTEE_LIB to the file", file.display()));
+        stop(&format!("{} is missing: run `rt lib` in the repository's crates/host, or set KITESETTEE_LIB to the file", file.display()));
     };
     let folder = file.parent().expect("a file has a folder");
     println!("cargo:rustc-link-search=native={}", folder.display());

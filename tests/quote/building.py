@@ -24,7 +24,10 @@ three: one # beside two
 four: three other
 
 # The program.
-tool: two three io libc
+tool: two three io
+
+# For hosts.
+lent staticlib: four
 '''
 ORDER = ('one', 'two', 'three', 'tool')
 
@@ -42,14 +45,15 @@ except KeyboardInterrupt:
     sys.exit(130)
 '''
 LINKS = '''
-os.makedirs('target/bin', exist_ok=True)
-open('target/bin/tool', 'w').write('built')
+os.makedirs('out', exist_ok=True)
+open('out/tool', 'w').write('built')
 '''
 PROVES = '''
 for crate in %r:
+    print('rt: chose --jobs 2 for %%s' %% crate)
     print('struct %%s::It: proved' %% crate)
-    print('rt: %%s proved (3 s)' %% crate, flush=True)
-print('rt: ok, 4 crates proved')
+    print('logic=proved functions=3', flush=True)
+print('rt: running out/tool; to give it other input, run that file yourself')
 ''' % (ORDER,)
 
 
@@ -77,7 +81,8 @@ class Building(unittest.TestCase):
         self.kit.mkdir()
         self.asks = Path(folder.name) / 'asks.py'
         self.asks.write_text(ASKS)
-        self.path = str((self.copy / 'target/bin/tool').resolve())
+        self.folder = self.copy / 'crates/tool'
+        self.path = str((self.folder / 'out/tool').resolve())
         self.log = self.copy / 'target/log/building_tool.txt'
 
     def rt(self, body):
@@ -117,16 +122,15 @@ class Runs(Building):
         self.assertEqual((run.returncode, run.stdout), (0, self.path + '\n'), run.stderr)
         self.assertRegex(run.stderr, r'quote: proved 1 of 4: one, \d:\d\d\n')
         first, *rest = lines_of(run.stderr)
-        self.assertEqual(first, 'quote: first use: proving 4 crates and building target/bin/tool; this may take some minutes, '
+        self.assertEqual(first, 'quote: first use: proving 4 crates and building crates/tool/out/tool; this may take some minutes, '
                                 'and what the prover says goes to target/log/building_tool.txt')
         self.assertEqual(rest, ['quote: proved %d of 4: %s' % (i + 1, crate) for i, crate in enumerate(ORDER)])
-        self.assertEqual(self.log.read_text().count('\n'), 9)
+        self.assertEqual(self.log.read_text().count('\n'), 13)
         self.assertIn('struct one::It: proved\n', self.log.read_text())
-        self.assertEqual(self.calls(), ['check tool'])
+        self.assertEqual(self.calls(), ['run'])
 
     def test_crates_already_proved_are_counted_at_once(self):
-        unchanged = "print('rt: one proved (unchanged since it was last proved)\\nrt: two proved (unchanged since it was last proved)')\n"
-        self.rt(unchanged + "print('rt: three proved (1 s)\\nrt: tool proved (2 s)')\n" + LINKS)
+        self.rt("for crate in ('three', 'tool'): print('rt: chose --jobs 2 for %s\\nlogic=proved functions=3' % crate)\n" + LINKS)
         self.assertEqual(lines_of(self.ask().stderr)[1:], ['quote: proved 3 of 4: three', 'quote: proved 4 of 4: tool'])
 
     def test_what_is_built_is_not_built_again(self):
@@ -151,7 +155,7 @@ class Runs(Building):
                 os.utime(self.copy / part, (1, 1))
 
     def test_a_change_while_it_is_built_is_not_missed(self):
-        self.rt("time.sleep(0.1)\nopen('crates/one/src/lib.rt', 'w').write('changed')\ntime.sleep(0.1)\n" + PROVES + LINKS)
+        self.rt("time.sleep(0.1)\nopen('../one/src/lib.rt', 'w').write('changed')\ntime.sleep(0.1)\n" + PROVES + LINKS)
         self.ask()
         self.rt(PROVES + LINKS)
         self.assertIn('the crates have changed', self.ask().stderr)
@@ -170,7 +174,7 @@ class Runs(Building):
 
     @unittest.skipUnless(os.path.exists('/dev/ptmx'), 'there is no terminal to be had')
     def test_one_line_on_a_terminal(self):
-        self.rt("print('rt: one proved (1 s)', flush=True)\ntime.sleep(1.3)\n" + PROVES + LINKS)
+        self.rt("print('rt: chose --jobs 2 for one\\nlogic=proved functions=3', flush=True)\ntime.sleep(1.3)\n" + PROVES + LINKS)
         ours, theirs = pty.openpty()
         process = self.start(stderr=theirs, stdout=subprocess.PIPE)
         os.close(theirs)
@@ -193,7 +197,7 @@ class Runs(Building):
 
 class Failures(Building):
     def test_no_kit(self):
-        words = self.fails('quote: target/bin/tool must be built (first use), and the Rattle kit (rt) that builds it is not on the PATH; ')
+        words = self.fails('quote: crates/tool/out/tool must be built (first use), and the Rattle kit (rt) that builds it is not on the PATH; ')
         self.assertTrue(words.endswith('or name a built program in KITESETTEE_TOOL\n') and words.count('\n') == 1)
         self.assertFalse((self.copy / 'target').exists())
 
@@ -210,37 +214,38 @@ class Failures(Building):
         self.fails('crates.txt: No such file')
 
     def test_a_crate_that_is_not_proved(self):
-        self.rt("print('rt: one proved (1 s)')\nfor i in range(400): print('note %d' % i)\nprint('error: ' + 'x' * 5000)\n"
-                "print('rt: two NOT PROVED (exit 1, 4 s)')\nprint('rt: tool NOT PROVED: its dependency two is not proved')\n"
-                "print('rt: FAILED: two tool')\nsys.exit(1)")
-        lines = self.fails('`rt check tool` ended with status 1; target/bin/tool is not built; target/log/building_tool.txt has all that it said')
+        self.rt("print('rt: chose --jobs 2 for one\\nlogic=proved functions=3\\nrt: chose --jobs 2 for two')\n"
+                "for i in range(400): print('note %d' % i)\nprint('error: ' + 'x' * 5000)\n"
+                "for i in range(9): print('statements lib%d: modules loaded=222 checked=0' % i)\nprint('logic=not-proved')\n"
+                "print('rt: the library two did not build, so nothing above it was checked')\nsys.exit(1)")
+        lines = self.fails('`rt run` in crates/tool ended with status 1; crates/tool/out/tool is not built; target/log/building_tool.txt has all that it said')
         lines = lines_of(lines)
         self.assertEqual(lines[1], 'quote: proved 1 of 4: one')
         self.assertEqual(lines[2:4], ['  | note 390', '  | note 391'])
         self.assertTrue(lines[-3].startswith('  | error: xxx') and len(lines[-3]) < 420)
-        self.assertEqual(lines[-2], '  | rt: two NOT PROVED (exit 1, 4 s)')
-        self.assertEqual(self.log.read_text().count('\n'), 405)
+        self.assertEqual(lines[-2], '  | logic=not-proved')
+        self.assertEqual(self.log.read_text().count('\n'), 415)
 
     def test_the_kit_fails(self):
         self.rt("print('rt: no toolchain for this machine', file=sys.stderr)\nsys.exit(2)")
         self.assertIn('  | rt: no toolchain for this machine\n', self.fails('ended with status 2'))
         self.rt('')
-        self.fails('ended with status 0; target/bin/tool is not built')
+        self.fails('ended with status 0; crates/tool/out/tool is not built')
         (self.kit / 'rt').write_text('#!/nowhere/sh\n')
-        self.fails('target/bin/tool cannot be built: ')
+        self.fails('crates/tool/out/tool cannot be built: ')
 
     def test_no_log_can_be_written(self):
         self.rt(PROVES + LINKS)
         (self.copy / 'target').write_text('')
-        self.fails('target/bin/tool cannot be built: ')
+        self.fails('crates/tool/out/tool cannot be built: ')
 
 
 class Retries(Building):
     """A program that was linked in a build that did not succeed is not used."""
 
     def test_after_a_failure(self):
-        self.rt(LINKS + "print('rt: tool proved, and its run FAILED (0 s)')\nsys.exit(1)")
-        self.assertIn('  | rt: tool proved, and its run FAILED (0 s)\n', self.fails('ended with status 1'))
+        self.rt(PROVES + LINKS + "print('tool: cannot read')\nsys.exit(1)")
+        self.assertIn('  | tool: cannot read\n', self.fails('ended with status 1'))
         self.assertIn('quote: the last build did not succeed: proving 4 crates', self.fails('ended with status 1'))
         self.rt(PROVES + LINKS)
         self.assertEqual((self.ask().returncode, self.ask().stderr), (0, ''))
@@ -259,7 +264,7 @@ class Interrupts(Building):
     LONG = '''
 child = subprocess.Popen([sys.executable, '-c', 'import signal, time; signal.signal(signal.SIGINT, signal.SIG_IGN); time.sleep(50)'])
 open('pids', 'w').write('%d %d ' % (os.getpid(), child.pid))
-print('rt: one proved (1 s)', flush=True)
+print('rt: chose --jobs 2 for one', flush=True)
 child.wait()
 '''
 
@@ -268,10 +273,10 @@ child.wait()
         process = self.start(stdout=subprocess.PIPE, stderr=subprocess.PIPE, text=True)
         for _ in range(200):
             time.sleep(0.05)
-            if (self.copy / 'pids').exists() and (self.copy / 'pids').read_text().endswith(' '):
+            if (self.folder / 'pids').exists() and (self.folder / 'pids').read_text().endswith(' '):
                 break
         time.sleep(0.2)
-        return process, [int(word) for word in (self.copy / 'pids').read_text().split()]
+        return process, [int(word) for word in (self.folder / 'pids').read_text().split()]
 
     def gone(self, pid):
         for _ in range(100):
@@ -297,7 +302,7 @@ child.wait()
                 self.assertNotIn('Traceback', errors)
                 self.assertEqual('no prover goes on' in errors, kind == signal.SIGINT)
                 self.assertTrue(all(self.gone(pid) for pid in pids))
-                (self.copy / 'pids').unlink()
+                (self.folder / 'pids').unlink()
 
     def test_a_second_run_waits_for_the_first(self):
         self.rt("while not os.path.exists('go'): time.sleep(0.05)\n" + PROVES + LINKS)
@@ -306,7 +311,7 @@ child.wait()
             time.sleep(0.05)
         second = self.start(stdout=subprocess.PIPE, stderr=subprocess.PIPE, text=True)
         self.assertEqual(second.stderr.readline(), 'quote: another run is building; this one waits for it\n')
-        (self.copy / 'go').touch()
+        (self.folder / 'go').touch()
         self.assertEqual([run.communicate(timeout=30)[0] for run in (first, second)], [self.path + '\n'] * 2)
         self.assertEqual((first.returncode, second.returncode, len(self.calls())), (0, 0, 1))
 

@@ -13,6 +13,7 @@ class FirstUse(Runs):
         shutil.copy(ROOT / 'quote', self.copy)
         shutil.copytree(ROOT / 'quoting', self.copy / 'quoting')
         (self.copy / 'crates.txt').write_text('blotter:\n')
+        (self.copy / 'crates/blotter').mkdir(parents=True)
         (self.folder / 'kit').mkdir()
 
     def first(self, tray, body):
@@ -20,7 +21,7 @@ class FirstUse(Runs):
         return self.run_quote(tray, script=self.copy / 'quote', KITESETTEE_BLOTTER='', PATH=str(self.folder / 'kit'))
 
     def test_built_and_asked(self):
-        builds = 'os.makedirs("target/bin", exist_ok=True)\nshutil.copy(%r, "target/bin/blotter")\nprint("rt: blotter proved (1 s)")\n' % str(self.fake)
+        builds = 'os.makedirs("out", exist_ok=True)\nshutil.copy(%r, "out/blotter")\nprint("logic=proved functions=3")\n' % str(self.fake)
         run = self.first(GOOD, builds)
         self.assertEqual(run.returncode, 0, run.stderr)
         self.assertIn('quote: first use: ', run.stderr)
@@ -31,7 +32,7 @@ class FirstUse(Runs):
     def test_not_built(self):
         run = self.first(GOOD, 'sys.exit(1)')
         self.assertEqual((run.returncode, run.stdout), (1, ''))
-        self.assertIn('target/bin/blotter is not built', run.stderr)
+        self.assertIn('crates/blotter/out/blotter is not built', run.stderr)
 
     def test_a_faulty_tray_is_told_first(self):
         run = self.first(header('call,abc,1,1'), 'sys.exit(1)')

@@ -19,7 +19,7 @@ from quoting.tray import Quote
 from quote import stand_in
 
 ROOT = Path(__file__).resolve().parent.parent.parent
-PROGRAM = Path(os.environ.get('KITESETTEE_BLOTTER') or ROOT / 'target/bin/blotter')
+PROGRAM = Path(os.environ.get('KITESETTEE_BLOTTER') or ROOT / 'crates/blotter/out/blotter')
 STAND_IN = Path(__file__).with_name('stand_in.py').read_text(encoding='utf-8')
 HAIR = '100.0000000000009094947017729282379150390625'
 GOOD = 'spot,100,rate,0.05\nkind,strike,expiry,value\ncall,100,0.5,25\n'

@@ -27,7 +27,7 @@
 //!
 //! # Building
 //!
-//! `rt staticlib host` in the repository writes `target/staticlib/libhost.a`, which the build script finds; elsewhere, set `KITESETTEE_LIB`
+//! `rt lib` in the repository's crates/host writes `crates/host/out/libhost.a`, which the build script finds; elsewhere, set `KITESETTEE_LIB`
 //! to the file or its folder. The library is for x86-64 Linux, keeps no state and allocates nothing, so that all calls may run in parallel.
 //! It counts on the processor's default rounding and on subnormal numbers: do not switch them off in the calling thread.
 

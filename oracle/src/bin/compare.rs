@@ -647,8 +647,8 @@ fn fed_program(questions: &[Fed]) -> Vec<String> {
             input += &format!("P{:016x}\n", bits(*p));
         }
     }
-    let program = concat!(env!("CARGO_MANIFEST_DIR"), "/../target/bin/brent_test");
-    let mut child = Command::new(program).stdin(Stdio::piped()).stdout(Stdio::piped()).spawn().expect("target/bin/brent_test");
+    let program = concat!(env!("CARGO_MANIFEST_DIR"), "/../crates/brent_test/out/brent_test");
+    let mut child = Command::new(program).stdin(Stdio::piped()).stdout(Stdio::piped()).spawn().expect("crates/brent_test/out/brent_test");
     let mut stdin = child.stdin.take().unwrap();
     let writer = std::thread::spawn(move || stdin.write_all(input.as_bytes()).unwrap());
     let output = child.wait_with_output().unwrap();
