@@ -1,11 +1,12 @@
 -- What document 01 says of the calls' checks and refusals. Assumes nothing.
+use Rattle.std.specs.Prelude.{if◌then◌else◌}
 use mathlib.Core.Path.{◌≡◌, refl, sym, ap, subst}
 use mathlib.Core.Bool.{true, false, not}
 use Prim.Native.Nat.{ℕ}
 use native.Mathlib.Omega.{arith}
 use lib.Dec.{eqb}
 use lib.Ieee.{Float}
-use Rattle.floats.specs.Operators.{decimal, if◌then◌else◌}
+use Rattle.floats.specs.Operators.{decimal}
 use Rattle.floats.proofs.Tests.{split}
 use Rattle.limits.specs.Ranges.{is_price, is_spot, is_strike, is_expiry, is_rate, is_volatility}
 use Rattle.limits.specs.Checks.{first, none}

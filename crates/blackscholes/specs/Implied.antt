@@ -1,6 +1,5 @@
 -- Implied volatility: document 01, "`implied_volatility` checks 5 to 9, then solves." Its solver is Brent's, over the model's prices.
-use Rattle.std.specs.Prelude.{ℕ, ◌≡◌, not, eqb, Float}
-use Rattle.floats.specs.Operators.{if◌then◌else◌}
+use Rattle.std.specs.Prelude.{ℕ, ◌≡◌, not, eqb, Float, if◌then◌else◌}
 use Rattle.limits.specs.Ranges.{is_price}
 use Rattle.limits.specs.Checks.{first, none}
 use Rattle.limits.specs.Outcome.{Outcome, done, refused}

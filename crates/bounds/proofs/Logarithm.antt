@@ -1,4 +1,5 @@
 -- ln of any f64 that is finite and above 0 is at most 2^55. Assumes nothing.
+use Rattle.std.specs.Prelude.{if◌then◌else◌}
 use mathlib.Core.Path.{◌≡◌, refl}
 use Prim.Native.Nat.{ℕ, zero, suc, ◌+◌, ◌-◌, ◌*◌, ◌^◌, ◌≤◌, ◌<◌}
 use native.Mathlib.Nat.{le_of_lt, mul-le-mul_right}
@@ -10,7 +11,7 @@ use borrow.Author.Tests.{ltb-true}
 use lib.Ieee.{Float, nan, inf, fin, binary64, up, down, fits, of_int, size}
 use lib.Ieee.Digits.{size-le}
 use lib.Ieee.Positive.{positive}
-use Rattle.floats.specs.Operators.{decimal, ◌⊕◌, ◌⊖◌, ◌⊗◌, ◌≺◌, if◌then◌else◌}
+use Rattle.floats.specs.Operators.{decimal, ◌⊕◌, ◌⊖◌, ◌⊗◌, ◌≺◌}
 use Rattle.floats.specs.Wholes.{units_of}
 use Rattle.floats.proofs.Tests.{by}
 use Rattle.floats.proofs.Minimum.{negative_round}

@@ -1,4 +1,5 @@
 -- No offer to the book is answered by 11: a record that passes 2 holds a spot and a rate in range. Assumes nothing.
+use Rattle.std.specs.Prelude.{if◌then◌else◌}
 use mathlib.Core.Path.{◌≡◌, refl, sym, ap, ◌∙◌, subst}
 use Prim.Native.Nat.{ℕ}
 use native.Mathlib.Omega.{arith}
@@ -6,7 +7,7 @@ use mathlib.Core.Bool.{Bool, true, false}
 use mathlib.Core.List.{[], ◌∷◌}
 use lib.Dec.{leb, eqb}
 use borrow.Author.Tests.{eqb-true, not-false}
-use Rattle.floats.specs.Operators.{decimal, if◌then◌else◌}
+use Rattle.floats.specs.Operators.{decimal}
 use Rattle.floats.proofs.Tests.{by}
 use Rattle.limits.specs.Ranges.{is_price, is_spot, is_strike, is_expiry, is_rate}
 use Rattle.limits.specs.Checks.{none}

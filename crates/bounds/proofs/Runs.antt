@@ -1,4 +1,5 @@
 -- Every price inside document 01's ranges is finite, so that no solver on the model's prices ends by 11. Assumes nothing.
+use Rattle.std.specs.Prelude.{if◌then◌else◌}
 use mathlib.Core.Path.{◌≡◌, refl, ap, ◌∙◌, subst}
 use Prim.Native.Nat.{ℕ, ◌^◌}
 use native.Mathlib.Omega.{arith}
@@ -7,7 +8,7 @@ use mathlib.Core.List.{[], ◌∷◌}
 use lib.Dec.{T, eqb, lit≤}
 use borrow.Author.Tests.{eqb-true, not-false}
 use lib.Ieee.{Float, binary64, fits}
-use Rattle.floats.specs.Operators.{decimal, ◌⊖◌, ◌≺◌, if◌then◌else◌}
+use Rattle.floats.specs.Operators.{decimal, ◌⊖◌, ◌≺◌}
 use Rattle.floats.specs.Values.{finite}
 use Rattle.floats.proofs.Tests.{by, clash, and_left}
 use Rattle.floats.proofs.Short.{most_finite}

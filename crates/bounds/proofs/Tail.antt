@@ -1,4 +1,5 @@
 -- erfc of what is at most 2^126 in size is at most 2^308, and so is the normal distribution. Assumes nothing.
+use Rattle.std.specs.Prelude.{if◌then◌else◌}
 use mathlib.Core.Path.{◌≡◌, refl, sym, ap, ◌∙◌, subst}
 use Prim.Native.Nat.{ℕ, zero, suc, ◌+◌, ◌-◌, ◌*◌, ◌^◌, ◌≤◌, ◌<◌, zero-le}
 use native.Mathlib.Nat.{le_trans, le_of_eq, le_of_lt, mul-le-mul_right, zero-mul}
@@ -10,7 +11,7 @@ use lib.Pow.{pow_pos}
 use borrow.Author.Tests.{ltb-true, ltb-false, lt-ltb}
 use lib.Ieee.{Float, nan, inf, fin, binary64, up, down, neg, lt, round}
 use lib.Ieee.Fits.{down_pos, mul-fits, neg-fits}
-use Rattle.floats.specs.Operators.{decimal, ◌⊕◌, ◌⊖◌, ◌⊗◌, ◌⊘◌, ◌≺◌, if◌then◌else◌}
+use Rattle.floats.specs.Operators.{decimal, ◌⊕◌, ◌⊖◌, ◌⊗◌, ◌⊘◌, ◌≺◌}
 use Rattle.floats.proofs.Tests.{by}
 use Rattle.floats.proofs.Signs.{O, below_zero}
 use Rattle.floats.proofs.Minimum.{NotBelow}

@@ -1,5 +1,6 @@
 -- A feed is one of seven answers, each with the tests that led to it: what holds of each holds of the feed. And 21's test holds for its four reasons.
 -- Assumes nothing.
+use Rattle.std.specs.Prelude.{if◌then◌else◌}
 use mathlib.Core.Path.{◌≡◌, refl, sym, subst}
 use Prim.Native.Nat.{ℕ, ◌+◌, ◌≤◌}
 use native.Mathlib.Omega.{arith}
@@ -7,7 +8,7 @@ use mathlib.Core.Bool.{Bool, true, false, not, ◌&&◌, ◌||◌, true≢false}
 use lib.Dec.{leb, ltb, eqb}
 use borrow.Author.Tests.{ltb-true, ltb-false}
 use lib.Ieee.{Float, eq}
-use Rattle.floats.specs.Operators.{decimal, ◌⊖◌, if◌then◌else◌}
+use Rattle.floats.specs.Operators.{decimal, ◌⊖◌}
 use Rattle.floats.specs.Values.{finite}
 use Rattle.floats.proofs.Tests.{by, split, clash, or_true}
 use Rattle.limits.specs.Ranges.{is_volatility}

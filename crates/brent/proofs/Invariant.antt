@@ -1,5 +1,6 @@
 -- What a solver fed from its start knows, whatever the prices: which points were tried with which errors, that b's error and c's oppose each other, that the
 -- points lie in range, and how many prices it got. Success and each refusal say what the claim says. Assumes nothing.
+use Rattle.std.specs.Prelude.{if◌then◌else◌}
 use mathlib.Core.Path.{◌≡◌, refl, sym, ap, ◌∙◌, subst}
 use mathlib.Core.Logic.{◌⊎◌, inl, inr}
 use mathlib.Core.List.Memᴰ
@@ -13,7 +14,7 @@ use borrow.Author.Tests.{leb-true, leb-false, eqb-true, ne_eqb, le-ltb}
 use lib.Ieee.{Float, binary64, eq, le, round, mul, fits}
 use lib.Ieee.Fits.{add-fits, round-fits}
 use lib.Ieee.Positive.{positive}
-use Rattle.floats.specs.Operators.{◌⊖◌, ◌⊗◌, ◌≺◌, ◌≼◌, if◌then◌else◌}
+use Rattle.floats.specs.Operators.{◌⊖◌, ◌⊗◌, ◌≺◌, ◌≼◌}
 use Rattle.floats.specs.Values.{magnitude, finite}
 use Rattle.floats.proofs.Tests.{by, clash, and_left, and_right, or_left, or_right_false}
 use Rattle.floats.proofs.Signs.{O, is_zero, positive_not_zero, positive_of_lt}

@@ -2,6 +2,7 @@
 -- longer than their exact distance. A step to the middle is about half of that and the smallest step is less; an interpolation that is accepted is at most
 -- half of 3 xm, about three quarters. The exact distance lies in a quarter, i to i + 1 times a power of two, and each rounding keeps the bound that
 -- follows from i + 1; since i is at least 4, three quarters of i + 1 are at most i. Assumes nothing.
+use Rattle.std.specs.Prelude.{if◌then◌else◌}
 use mathlib.Core.Path.{◌≡◌, refl, sym, ap, ◌∙◌, subst}
 use Prim.Native.Nat.{ℕ, ◌+◌, ◌-◌, ◌*◌, ◌^◌, ◌≤◌, zero-le}
 use native.Mathlib.Nat.{le_trans, le_of_lt, lt_of_not-le, mul-pos, mul-le-mul_right}
@@ -14,7 +15,7 @@ use lib.Ieee.{Float, nan, inf, fin, binary64, up, down, neg, add, mul, round, fi
 use lib.Ieee.Fits.{down_pos, and_i, mul-fits, sub-fits, neg-fits}
 use lib.Ieee.Bits.{is_true}
 use lib.Ieee.Positive.{num, den, positive, le→cross, through, den_pos}
-use Rattle.floats.specs.Operators.{decimal, ◌⊕◌, ◌⊖◌, ◌⊗◌, ◌⊘◌, ◌≺◌, ◌≼◌, if◌then◌else◌}
+use Rattle.floats.specs.Operators.{decimal, ◌⊕◌, ◌⊖◌, ◌⊗◌, ◌⊘◌, ◌≺◌, ◌≼◌}
 use Rattle.floats.specs.Values.{magnitude, minimum, negative, copysign}
 use Rattle.floats.proofs.Tests.{by, split, clash, and_left, and_right, or_left_false}
 use Rattle.floats.proofs.Signs.{O, not_both_signs, neg_below}

@@ -1,8 +1,8 @@
 -- Document 01: "The solver is Brent's (1973) as the Rust writes it." One turn of the loop of `implied_volatility` (src/options/greeks.rs), in its names
 -- and its order of operations. The line of the Rust stands above each definition.
-use Rattle.std.specs.Prelude.{ℕ, Bool, ◌&&◌, ◌||◌, Float}
+use Rattle.std.specs.Prelude.{ℕ, Bool, ◌&&◌, ◌||◌, Float, if◌then◌else◌}
 use Rattle.std.specs.Float.Ieee.{neg}
-use Rattle.floats.specs.Operators.{decimal, ◌⊕◌, ◌⊖◌, ◌⊗◌, ◌⊘◌, ◌≺◌, ◌≼◌, if◌then◌else◌}
+use Rattle.floats.specs.Operators.{decimal, ◌⊕◌, ◌⊖◌, ◌⊗◌, ◌⊘◌, ◌≺◌, ◌≼◌}
 use Rattle.floats.specs.Values.{magnitude, minimum, copysign}
 use Rattle.brent.specs.declared.Points.{Points}
 use Rattle.brent.specs.declared.Ratio.{Ratio}

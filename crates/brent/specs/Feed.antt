@@ -1,8 +1,8 @@
 -- Document 01: the solver "also stands alone, fed one price at a time by any model; checks are 5 at the start, then 21, 11, 12, 13, 14."
 -- 14 left with S-10: no answer is out of range. Ends 0.000001 and 10, 50 rounds, error = price - market price.
-use Rattle.std.specs.Prelude.{ℕ, ◌+◌, Bool, not, ◌&&◌, ◌||◌, leb, ltb, eqb, Float}
+use Rattle.std.specs.Prelude.{ℕ, ◌+◌, Bool, not, ◌&&◌, ◌||◌, leb, ltb, eqb, Float, if◌then◌else◌}
 use Rattle.std.specs.Float.Ieee.{eq}
-use Rattle.floats.specs.Operators.{decimal, ◌⊖◌, ◌⊗◌, ◌≺◌, if◌then◌else◌}
+use Rattle.floats.specs.Operators.{decimal, ◌⊖◌, ◌⊗◌, ◌≺◌}
 use Rattle.floats.specs.Values.{finite}
 use Rattle.limits.specs.Ranges.{is_price, is_volatility, lowest_volatility, highest_volatility}
 use Rattle.limits.specs.Checks.{first, none}

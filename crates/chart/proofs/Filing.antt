@@ -1,4 +1,5 @@
 -- What the sums and counts hold when k quotes have been filed: with the quotes still to come they make those of all quotes. Assumes nothing.
+use Rattle.std.specs.Prelude.{if◌then◌else◌}
 use Prim.Native.Nat.{ℕ, suc, zero, ◌+◌, ◌≤◌, ◌<◌}
 use mathlib.Core.Path.{◌≡◌, subst}
 use mathlib.Core.Bool.{true, false, ◌&&◌}
@@ -9,7 +10,7 @@ use lib.ListN.{length, drop, get_or, set, length-set}
 use lib.Seq.{get_or-set_same, get_or-set_other}
 use lib.Ieee.{Float, nan}
 use borrow.Author.Tests.{eqb-true, eq-eqb}
-use Rattle.floats.specs.Operators.{decimal, ◌⊕◌, if◌then◌else◌}
+use Rattle.floats.specs.Operators.{decimal, ◌⊕◌}
 use Rattle.floats.proofs.Tests.{and_left, and_right, clash, split}
 use Rattle.grid.specs.Layout.{cell_at}
 use Rattle.chart.specs.Quotes.{Quote, Columns, quotes}

@@ -1,4 +1,5 @@
 -- The neighbour rule, a column at a time. It looks at no column past the row, and finds the nearest counted ones. Assumes nothing.
+use Rattle.std.specs.Prelude.{if◌then◌else◌}
 use Prim.Native.Nat.{ℕ, zero, suc, ◌+◌, ◌-◌, ◌≤◌, ◌<◌}
 use mathlib.Core.Path.{◌≡◌, refl, sym, ◌∙◌, subst}
 use mathlib.Core.Bool.{false}
@@ -10,7 +11,7 @@ use native.Mathlib.Numerals.{add-one}
 use lib.Dec.{ltb, eqb}
 use lib.Ieee.{Float}
 use borrow.Author.Tests.{lt-ltb, le-ltb, ltb-true, ltb-false, eqb-true, eqb-false}
-use Rattle.floats.specs.Operators.{decimal, ◌⊘◌, if◌then◌else◌}
+use Rattle.floats.specs.Operators.{decimal, ◌⊘◌}
 use Rattle.chart.specs.Cells.{leftward, rightward, either, source}
 use Rattle.chart.specs.Steps.{held}
 use Rattle.floats.proofs.Tests.{split}

@@ -1,7 +1,7 @@
 -- Document 01: "Each axis: values sorted ascending, a value dropped if its float difference from the last value kept is under 1e-12. A quote
 -- belongs to the first axis value whose difference has magnitude under 1e-12."
-use Rattle.std.specs.Prelude.{ℕ, Bool, List, [], ◌∷◌, Float}
-use Rattle.floats.specs.Operators.{decimal, ◌⊖◌, ◌≺◌, if◌then◌else◌}
+use Rattle.std.specs.Prelude.{ℕ, Bool, List, [], ◌∷◌, Float, if◌then◌else◌}
+use Rattle.floats.specs.Operators.{decimal, ◌⊖◌, ◌≺◌}
 use Rattle.floats.specs.Values.{magnitude}
 use Rattle.grid.specs.Search.{first_where}
 

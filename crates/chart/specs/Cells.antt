@@ -1,8 +1,8 @@
 -- Document 01: "A cell (row by expiry, column by strike) counts its quotes and holds their volatilities summed in arrival order from 0.0, divided by
 -- the count. .. An uncounted cell takes the nearest counted cell to its left in the row, else to its right."
-use Rattle.std.specs.Prelude.{ℕ, zero, suc, ◌-◌, ◌<◌, Bool, ◌&&◌, List, [], ◌∷◌, map, ltb, eqb, length, Float}
+use Rattle.std.specs.Prelude.{ℕ, zero, suc, ◌-◌, ◌<◌, Bool, ◌&&◌, List, [], ◌∷◌, map, ltb, eqb, length, Float, if◌then◌else◌}
 use Rattle.std.proofs.Math.Option.{Option, none, some}
-use Rattle.floats.specs.Operators.{decimal, ◌⊕◌, ◌⊘◌, if◌then◌else◌}
+use Rattle.floats.specs.Operators.{decimal, ◌⊕◌, ◌⊘◌}
 use Rattle.chart.specs.Quotes.{Quote}
 use Rattle.chart.specs.Axis.{axis, place}
 

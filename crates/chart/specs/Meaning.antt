@@ -1,10 +1,10 @@
 -- What the rules come to for quotes in range: no quote is dropped or counted twice, no two axis values are a hair apart, no cell divides by 0, and the
 -- cells are what the gap filler's sweeps make of the means.
-use Rattle.std.specs.Prelude.{ℕ, zero, suc, ◌+◌, ◌≤◌, ◌<◌, ◌≡◌, true, false, ltb, length, get_or, Float}
+use Rattle.std.specs.Prelude.{ℕ, zero, suc, ◌+◌, ◌≤◌, ◌<◌, ◌≡◌, true, false, ltb, length, get_or, Float, if◌then◌else◌}
 use mathlib.Core.List.{List, [], ◌∷◌, map, Permᴰ}
 use Rattle.std.specs.Float.{nan}
 use Rattle.std.specs.Float.Ieee.{is_nan}
-use Rattle.floats.specs.Operators.{◌⊖◌, ◌≺◌, if◌then◌else◌}
+use Rattle.floats.specs.Operators.{◌⊖◌, ◌≺◌}
 use Rattle.chart.specs.Quotes.{Quote}
 use Rattle.chart.specs.Axis.{hair, sort}
 use Rattle.grid.specs.Layout.{cell_at}

@@ -1,4 +1,5 @@
 -- The laws of exp and ln. Assumes nothing.
+use Rattle.std.specs.Prelude.{if◌then◌else◌}
 use mathlib.Core.Path.{◌≡◌, refl, sym, ap, ◌∙◌}
 use mathlib.Core.Bool.{Bool, true, false, true≢false}
 use Prim.Native.Nat.{ℕ, zero, suc, ◌*◌, ◌^◌}
@@ -8,7 +9,7 @@ use lib.Dec.{T}
 use lib.IntN.{ℤ, pos, negsuc, ◌+ℤ◌}
 use lib.Ieee.Positive.{positive}
 use lib.Ieee.{Float, nan, inf, fin, binary64, up, down, is_nan, lt, neg, add, sub, mul, of_int, round, odd, size, fits}
-use Rattle.floats.specs.Operators.{decimal, ◌⊕◌, ◌⊗◌, ◌≺◌, if◌then◌else◌}
+use Rattle.floats.specs.Operators.{decimal, ◌⊕◌, ◌⊗◌, ◌≺◌}
 use Rattle.floats.proofs.Same.{same, same_is}
 use Rattle.floats.proofs.Tests.{by, split}
 use Rattle.floats.proofs.Signs.{O, not_both_signs, lt_of_above, not_below_round}

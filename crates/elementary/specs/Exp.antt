@@ -1,10 +1,10 @@
 -- Document 01, 'exp(v)': "above 709, infinity; .. k is the largest whole number not above v × 1.4426950408889634 + 0.5; r = (v - k×H) - k×J; p starts at
 -- E[13] and for i from 12 down to 0 becomes p×r + E[i]; the answer is p × 2^k." Document 02, S-8, for 01's "below -708, 0.0": "exp now answers down to
 -- -745 through subnormals: for v below -708, with k the same, p is multiplied by 2^(k+200) and then by 2^-200; below -745 it gives 0.0."
-use Rattle.std.specs.Prelude.{ℕ, ◌+◌, ◌-◌, ◌*◌, ◌/◌, ◌^◌, true, false, ℤ, pos, neg_ℤ, ◌+ℤ◌, ◌*ℤ◌, ◌≤ℤ◌, Float}
+use Rattle.std.specs.Prelude.{ℕ, ◌+◌, ◌-◌, ◌*◌, ◌/◌, ◌^◌, true, false, ℤ, pos, neg_ℤ, ◌+ℤ◌, ◌*ℤ◌, ◌≤ℤ◌, Float, if◌then◌else◌}
 use Rattle.std.specs.Float.{nan, inf, fin, binary64}
 use Rattle.std.specs.Float.Ieee.{up, down, neg, is_nan, of_int}
-use Rattle.floats.specs.Operators.{decimal, ◌⊕◌, ◌⊖◌, ◌⊗◌, ◌≺◌, if◌then◌else◌}
+use Rattle.floats.specs.Operators.{decimal, ◌⊕◌, ◌⊖◌, ◌⊗◌, ◌≺◌}
 use Rattle.floats.specs.Wholes.{whole_of}
 use Rattle.elementary.specs.Tables.{E, polynomial}
 

@@ -1,11 +1,11 @@
 -- Document 01, 'ln(v)': "0 gives minus infinity, a negative not-a-number, infinity itself. Else v = m × 2^e, m in [1, 2) (subnormals also);
 -- if m > 1.4142135623730951, halve m and add 1 to e. z = (m-1)/(m+1), w = z×z; q starts at L[10], for i from 9 down to 0 becomes q×w + L[i];
 -- answer e×H + ((2×z)×q + e×J)."
-use Rattle.std.specs.Prelude.{◌≡◌, true, false, ℕ, zero, suc, ◌-◌, ◌*◌, ◌^◌, ◌≤◌, ◌<◌, T, ℤ, pos, neg_ℤ, ◌+ℤ◌, Float}
+use Rattle.std.specs.Prelude.{◌≡◌, true, false, ℕ, zero, suc, ◌-◌, ◌*◌, ◌^◌, ◌≤◌, ◌<◌, T, ℤ, pos, neg_ℤ, ◌+ℤ◌, Float, if◌then◌else◌}
 use Rattle.std.specs.Float.{nan, inf, fin, binary64}
 use Rattle.std.specs.Float.Ieee.{up, down, fits, of_int, size}
 use Rattle.std.specs.Float.Ieee.Positive.{positive}
-use Rattle.floats.specs.Operators.{decimal, ◌⊕◌, ◌⊖◌, ◌⊗◌, ◌⊘◌, ◌≺◌, if◌then◌else◌}
+use Rattle.floats.specs.Operators.{decimal, ◌⊕◌, ◌⊖◌, ◌⊗◌, ◌⊘◌, ◌≺◌}
 use Rattle.floats.specs.Wholes.{units_of}
 use Rattle.elementary.specs.Tables.{L, polynomial}
 use Rattle.elementary.specs.Exp.{H, J}

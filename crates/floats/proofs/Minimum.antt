@@ -1,4 +1,5 @@
 -- What is below a minimum, and below a difference: the tests of values that are not below 0, where not-a-numbers and infinities may stand. Assumes nothing.
+use Rattle.std.specs.Prelude.{if◌then◌else◌}
 use mathlib.Core.Path.{◌≡◌, refl, sym, ap, ◌∙◌, subst}
 use Prim.Native.Nat.{ℕ, zero, suc, ◌+◌, ◌-◌, ◌*◌, ◌^◌, ◌≤◌, ◌<◌, zero-le}
 use native.Mathlib.Nat.{le_trans, le_of_eq, lt_of_not-le, not-le_of_lt, zero-mul, mul-pos, zero-lt-suc, mul_right_comm, mul-le-mul_right}
@@ -14,7 +15,7 @@ use lib.Ieee.Fits.{down_pos, round_is}
 use lib.Ieee.Exact.{HasValue}
 use lib.Ieee.Order.{le_of_values}
 use lib.Ieee.Positive.{first_pos, through}
-use Rattle.floats.specs.Operators.{◌≺◌, ◌≼◌, ◌⊖◌, ◌⊗◌, if◌then◌else◌}
+use Rattle.floats.specs.Operators.{◌≺◌, ◌≼◌, ◌⊖◌, ◌⊗◌}
 use Rattle.floats.specs.Values.{magnitude, minimum, negative}
 use Rattle.floats.proofs.Rounding.{zero_rounds}
 use Rattle.floats.proofs.Tests.{by, clash, or_le}

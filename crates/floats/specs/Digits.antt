@@ -1,9 +1,8 @@
 -- The binary digits of a float above 0, as the square root and the logarithm read them.
-use Rattle.std.specs.Prelude.{◌≡◌, ℕ, ◌*◌, ◌/◌, ◌^◌, ◌≤◌, ◌<◌, T, Float}
+use Rattle.std.specs.Prelude.{◌≡◌, ℕ, ◌*◌, ◌/◌, ◌^◌, ◌≤◌, ◌<◌, T, Float, if◌then◌else◌}
 use Rattle.std.specs.Float.Ieee.{fits, size}
 use Rattle.std.specs.Float.{binary64}
 use Rattle.std.specs.Float.Ieee.Positive.{positive}
-use Rattle.floats.specs.Operators.{if◌then◌else◌}
 use Rattle.floats.specs.Wholes.{units_of}
 use Rattle.floats.specs.declared.Parts.{Parts}
 

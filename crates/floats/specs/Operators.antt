@@ -1,6 +1,6 @@
 -- Document 01, opening: "All floats are binary64 of IEEE 754, each operation rounded once; a decimal constant is the nearest such float."
 -- The operators have symbols of their own: `+`, `<`, `≤` and `≡` keep the library's meaning everywhere.
-use Rattle.std.specs.Prelude.{ℕ, Bool, false, cond, Float}
+use Rattle.std.specs.Prelude.{ℕ, Bool, false, Float}
 use Rattle.std.specs.Float.{binary64}
 use Rattle.std.specs.Float.Ieee.{round, add, sub, mul, div, lt, le}
 
@@ -33,8 +33,3 @@ x ≺ y = lt x y
 
 abbrev pub ◌≼◌ : Float → Float → Bool
 x ≼ y = le x y
-
--- A choice by a test.
-infix 10 if◌then◌else◌
-abbrev pub if◌then◌else◌ : {X : Type 0} → Bool → X → X → X
-if t then x else y = cond t x y

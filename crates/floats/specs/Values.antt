@@ -1,9 +1,9 @@
 -- Magnitude, minimum, sign and finiteness of a float. `finite` is the library's: neither an infinity nor a not-a-number.
-use Rattle.std.specs.Prelude.{Bool, false, not, Float}
+use Rattle.std.specs.Prelude.{Bool, false, not, Float, if◌then◌else◌}
 use Rattle.std.specs.Float.{nan, inf, fin}
 use Rattle.std.specs.Float.Ieee.{neg, is_nan}
 pub use Rattle.std.specs.Float.Ieee.Scale.{finite}
-use Rattle.floats.specs.Operators.{◌≺◌, if◌then◌else◌}
+use Rattle.floats.specs.Operators.{◌≺◌}
 
 -- Rust's f64::abs: the sign is cleared.
 unfoldable pub magnitude : Float → Float

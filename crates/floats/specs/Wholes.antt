@@ -1,8 +1,7 @@
 -- Document 01: "Exact comparisons read a finite f64 as a whole number over 2^1074." A reading of finite values only.
-use Rattle.std.specs.Prelude.{ℕ, ◌*◌, ◌/◌, ◌^◌, ℤ, pos, neg_ℤ, nat_abs, ◌-ℤ◌, Float}
+use Rattle.std.specs.Prelude.{ℕ, ◌*◌, ◌/◌, ◌^◌, ℤ, pos, neg_ℤ, nat_abs, ◌-ℤ◌, Float, if◌then◌else◌}
 use Rattle.std.specs.Float.{nan, inf, fin}
 use Rattle.std.specs.Float.Ieee.{up, down}
-use Rattle.floats.specs.Operators.{if◌then◌else◌}
 
 -- The magnitude of x is `units_of x` over 2^1074, the least float above 0.
 abbrev pub units_of : Float → ℕ

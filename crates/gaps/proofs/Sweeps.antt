@@ -1,4 +1,5 @@
 -- What the sweeps make of one line: each place takes the value that `Takes` names. Assumes nothing.
+use Rattle.std.specs.Prelude.{if◌then◌else◌}
 use Prim.Native.Nat.{ℕ, zero, suc, ◌≤◌, ◌<◌}
 use mathlib.Core.Path.{◌≡◌, refl, ap, ◌∙◌}
 use mathlib.Core.Bool.{Bool, true, false}
@@ -10,7 +11,6 @@ use lib.Dec.{ltb}
 use lib.ListN.{length, get_or}
 use lib.Ieee.{Float, nan, is_nan}
 use borrow.Author.Tests.{ltb-true, ltb-false}
-use Rattle.floats.specs.Operators.{if◌then◌else◌}
 use Rattle.floats.proofs.Tests.{split}
 use Rattle.gaps.specs.Gaps.{filled, forward, backward, swept}
 use Rattle.gaps.specs.Filler.{Takes}

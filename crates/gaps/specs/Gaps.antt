@@ -1,9 +1,8 @@
 -- Document 01: "The gap filler, callable on any grid of up to 32 × 64 cells where not-a-number is a gap, checks 2 and 15, then does rows, then
 -- columns by the same sweeps, and writes nothing else."
-use Rattle.std.specs.Prelude.{ℕ, zero, suc, ◌≤◌, ◌<◌, ◌≡◌, ◌||◌, List, [], ◌∷◌, ltb, length, get_or, set, Float}
+use Rattle.std.specs.Prelude.{ℕ, zero, suc, ◌≤◌, ◌<◌, ◌≡◌, ◌||◌, List, [], ◌∷◌, ltb, length, get_or, set, Float, if◌then◌else◌}
 use Rattle.std.specs.Float.{nan}
 use Rattle.std.specs.Float.Ieee.{is_nan}
-use Rattle.floats.specs.Operators.{if◌then◌else◌}
 use Rattle.limits.specs.Checks.{first, none}
 use Rattle.limits.specs.Outcome.{Outcome, done, refused, answered, unless_refused}
 use Rattle.grid.specs.Layout.{cell_at, values, partly}

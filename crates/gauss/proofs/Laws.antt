@@ -1,9 +1,10 @@
 -- The laws of erfc. Assumes nothing.
+use Rattle.std.specs.Prelude.{if◌then◌else◌}
 use mathlib.Core.Path.{◌≡◌, refl}
 use mathlib.Core.Bool.{Bool, true, false}
 use Prim.Native.Nat.{◌^◌}
 use lib.Ieee.{Float, neg}
-use Rattle.floats.specs.Operators.{decimal, ◌⊖◌, ◌⊗◌, ◌⊘◌, ◌≺◌, if◌then◌else◌}
+use Rattle.floats.specs.Operators.{decimal, ◌⊖◌, ◌⊗◌, ◌⊘◌, ◌≺◌}
 use Rattle.elementary.specs.Exp.{exp}
 use Rattle.gauss.specs.Erfc.{erfc, erfc_from_zero, series, fraction}
 use Rattle.gauss.specs.Laws.{Laws}
@@ -25,12 +26,12 @@ far v = exp (neg (v ⊗ v)) ⊗ decimal 5641895835477563 (10 ^ 16) ⊘ fraction 
 erfc_under_2 : (v : Float) → v ≺ decimal 0 1 ≡ false → v ≺ decimal 2 1 ≡ true
     → erfc v ≡ near v
 unfolding erfc
-erfc_under_2 v h l = first_of (v ≺ decimal 0 1) (v ≺ decimal 2 1) (decimal 2 1 ⊖ erfc_from_zero (neg v)) (near v) (far v) h l
+erfc_under_2 v h l = rw (h, l)
 
 erfc_from_2 : (v : Float) → v ≺ decimal 0 1 ≡ false → v ≺ decimal 2 1 ≡ false
     → erfc v ≡ far v
 unfolding erfc
-erfc_from_2 v h l = last_of (v ≺ decimal 0 1) (v ≺ decimal 2 1) (decimal 2 1 ⊖ erfc_from_zero (neg v)) (near v) (far v) h l
+erfc_from_2 v h l = rw (h, l)
 
 pub laws : Laws
 laws =

@@ -1,9 +1,9 @@
 -- Document 01, 'erfc(v)': "below 0, 2 - erfc(-v). Under 2: g = v, sum = v; for n = 0 to 39, g = (g×((2×v)×v))/(2n+3), added to sum;
 -- answer 1 - (1.1283791670955126 × exp(-(v×v))) × sum. From 2: c = v; for j from 60 down to 1, c = v + (j/2)/c; answer (exp(-(v×v)) ×
 -- 0.5641895835477563)/c."
-use Rattle.std.specs.Prelude.{ℕ, zero, suc, ◌+◌, ◌-◌, ◌*◌, ◌^◌, Float}
+use Rattle.std.specs.Prelude.{ℕ, zero, suc, ◌+◌, ◌-◌, ◌*◌, ◌^◌, Float, if◌then◌else◌}
 use Rattle.std.specs.Float.Ieee.{neg}
-use Rattle.floats.specs.Operators.{decimal, ◌⊕◌, ◌⊖◌, ◌⊗◌, ◌⊘◌, ◌≺◌, if◌then◌else◌}
+use Rattle.floats.specs.Operators.{decimal, ◌⊕◌, ◌⊖◌, ◌⊗◌, ◌⊘◌, ◌≺◌}
 use Rattle.elementary.specs.Exp.{exp}
 
 -- Rounds of the series and of the fraction.

@@ -1,7 +1,7 @@
 -- What the private steps of crate `normal` promise each other. No meaning of document 01's rests on these.
-use Rattle.std.specs.Prelude.{Bool, ◌&&◌, ℕ, leb, Float}
+use Rattle.std.specs.Prelude.{Bool, ◌&&◌, ℕ, leb, Float, if◌then◌else◌}
 use Rattle.std.specs.Float.Ieee.{eq, neg}
-use Rattle.floats.specs.Operators.{decimal, ◌⊖◌, ◌≺◌, ◌≼◌, if◌then◌else◌}
+use Rattle.floats.specs.Operators.{decimal, ◌⊖◌, ◌≺◌, ◌≼◌}
 
 -- Of a round of the series for erfc, whose term is g: the sum after it is the sum before it.
 abbrev pub unmoved : Float → Float → Float → Bool

@@ -1,8 +1,8 @@
 -- Document 02, S-2: at-the-money "becomes the strike nearest its spot by float difference, the lower one on a tie".
-use Rattle.std.specs.Prelude.{ℕ, ◌<◌, ◌^◌, ◌≡◌, Bool, true, false, not, ◌&&◌, ◌||◌, List, [], ◌∷◌, T, ltb, length, take, get_or, Float}
+use Rattle.std.specs.Prelude.{ℕ, ◌<◌, ◌^◌, ◌≡◌, Bool, true, false, not, ◌&&◌, ◌||◌, List, [], ◌∷◌, T, ltb, length, take, get_or, Float, if◌then◌else◌}
 use Rattle.std.specs.Float.{nan, binary64}
 use Rattle.std.specs.Float.Ieee.{fits, round}
-use Rattle.floats.specs.Operators.{◌⊖◌, ◌≺◌, if◌then◌else◌}
+use Rattle.floats.specs.Operators.{◌⊖◌, ◌≺◌}
 use Rattle.floats.specs.Values.{magnitude, finite}
 use Rattle.floats.specs.Wholes.{distance}
 use Rattle.limits.specs.Checks.{first, none}

@@ -1,6 +1,5 @@
 -- The search that stops at the first hit.
-use Rattle.std.specs.Prelude.{ℕ, suc, Bool, List, [], ◌∷◌, Float}
-use Rattle.floats.specs.Operators.{if◌then◌else◌}
+use Rattle.std.specs.Prelude.{ℕ, suc, Bool, List, [], ◌∷◌, Float, if◌then◌else◌}
 
 -- The index of the first value of which the test holds, and the length where it holds of none.
 unfoldable pub first_where : (Float → Bool) → List Float → ℕ

@@ -1,8 +1,7 @@
 -- Document 01, 'Hexadecimal lines': what a line says.
-use Rattle.std.specs.Prelude.{Bool, ◌&&◌, List, [], ◌∷◌, ◌++◌, ℕ, ◌+◌, ◌*◌, eqb, length, take, Float}
+use Rattle.std.specs.Prelude.{Bool, ◌&&◌, List, [], ◌∷◌, ◌++◌, ℕ, ◌+◌, ◌*◌, eqb, length, take, Float, if◌then◌else◌}
 use Rattle.std.specs.Float.{binary64}
 use Rattle.std.specs.Float.Ieee.{to_bits}
-use Rattle.floats.specs.Operators.{if◌then◌else◌}
 use Rattle.hexlines.specs.Hex.{all_digits, value, float, digits}
 use Rattle.hexlines.specs.declared.Frame.{Frame}
 use Rattle.hexlines.specs.declared.Frame.TheVariants.{Open, Call, Put, Vol, Read, Bad}

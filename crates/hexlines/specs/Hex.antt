@@ -1,9 +1,8 @@
 -- Document 01, 'Hexadecimal lines': the digits, the numbers and floats that they write, and the line of an answer. A line is a list of bytes.
-use Rattle.std.specs.Prelude.{Bool, true, ◌&&◌, ◌||◌, List, [], ◌∷◌, ◌++◌, ℕ, zero, suc, ◌+◌, ◌-◌, ◌*◌, ◌/◌, ◌%◌, ◌^◌, leb, take, drop, Float}
+use Rattle.std.specs.Prelude.{Bool, true, ◌&&◌, ◌||◌, List, [], ◌∷◌, ◌++◌, ℕ, zero, suc, ◌+◌, ◌-◌, ◌*◌, ◌/◌, ◌%◌, ◌^◌, leb, take, drop, Float, if◌then◌else◌}
 use Prim.Native.Char.{Char, code}
 use Rattle.std.specs.Float.{binary64}
 use Rattle.std.specs.Float.Ieee.{of_bits, to_bits}
-use Rattle.floats.specs.Operators.{if◌then◌else◌}
 
 -- A byte from one character to another, both included.
 unfoldable pub between : Char → Char → ℕ → Bool

@@ -1,7 +1,6 @@
 -- Document 01, 'Hexadecimal lines': "The program reads one frame a line (a line feed ends it; the last may lack one)".
-use Rattle.std.specs.Prelude.{Bool, true, not, ◌&&◌, List, [], ◌∷◌, ◌++◌, ℕ, suc, ◌+◌, eqb, ltb, take, drop, set, replicate}
+use Rattle.std.specs.Prelude.{Bool, true, not, ◌&&◌, List, [], ◌∷◌, ◌++◌, ℕ, suc, ◌+◌, eqb, ltb, take, drop, set, replicate, if◌then◌else◌}
 use Prim.Native.Char.{code}
-use Rattle.floats.specs.Operators.{if◌then◌else◌}
 use Rattle.hexlines.specs.declared.Line.{Line}
 use Rattle.hexlines.specs.declared.Taken.{Taken}
 

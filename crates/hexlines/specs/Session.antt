@@ -1,8 +1,7 @@
 -- Document 01, 'Hexadecimal lines', over any book: frames are heard one after the other, and each answer's line is written. A book of type B
 -- enters by one function only, `hear`.
-use Rattle.std.specs.Prelude.{List, [], ◌∷◌, ◌++◌, map, ℕ, eqb, length, take, Float}
+use Rattle.std.specs.Prelude.{List, [], ◌∷◌, ◌++◌, map, ℕ, eqb, length, take, Float, if◌then◌else◌}
 use Prim.Native.Char.{code}
-use Rattle.floats.specs.Operators.{if◌then◌else◌}
 use Rattle.hexlines.specs.Hex.{answer_line}
 use Rattle.hexlines.specs.Frames.{frame_of}
 use Rattle.hexlines.specs.Lines.{lines, cap}

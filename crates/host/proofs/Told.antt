@@ -1,4 +1,5 @@
 -- What a host is told is the outcome, where no refusal has the number 0: of a chain of checks none has, and of a solver none. Assumes nothing.
+use Rattle.std.specs.Prelude.{if◌then◌else◌}
 use mathlib.Core.Path.{◌≡◌, refl}
 use mathlib.Core.Bool.{Bool, true, false}
 use mathlib.Core.List.{List}
@@ -7,7 +8,7 @@ use native.Mathlib.Omega.{arith}
 use lib.Dec.{eqb}
 use lib.Ieee.{Float}
 use borrow.Author.Tests.{ne_eqb, eqb-false}
-use Rattle.floats.specs.Operators.{decimal, if◌then◌else◌}
+use Rattle.floats.specs.Operators.{decimal}
 use Rattle.floats.proofs.Tests.{split}
 use Rattle.limits.specs.Checks.{none}
 use Rattle.limits.specs.Outcome.{Outcome, done, refused, number_of, values_of, answered}

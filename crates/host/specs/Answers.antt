@@ -1,6 +1,5 @@
 -- How a host is told an outcome: a call returns 0 and writes the values, or returns document 01's number and writes the refusal's zeros.
-use Rattle.std.specs.Prelude.{ℕ, List, eqb, Float}
-use Rattle.floats.specs.Operators.{if◌then◌else◌}
+use Rattle.std.specs.Prelude.{ℕ, List, eqb, Float, if◌then◌else◌}
 use Rattle.limits.specs.Checks.{none}
 use Rattle.limits.specs.Outcome.{Outcome, done, refused}
 use Rattle.brent.specs.declared.Solution.{Solution}

@@ -1,4 +1,5 @@
 -- One offer: the book answers it by the tally's tests, and book and tally agree after it. Assumes nothing.
+use Rattle.std.specs.Prelude.{if◌then◌else◌}
 use mathlib.Core.Path.{◌≡◌, refl, sym, subst}
 use Prim.Native.Nat.{ℕ, ◌+◌, ◌<◌}
 use native.Mathlib.Omega.{arith}
@@ -8,7 +9,6 @@ use lib.Dec.{leb, eqb, lit<}
 use lib.ListN.{length, length-append}
 use borrow.Author.Tests.{leb-false, eq-eqb, ne_eqb}
 use lib.Ieee.{Float}
-use Rattle.floats.specs.Operators.{if◌then◌else◌}
 use Rattle.floats.proofs.Tests.{clash}
 use Rattle.limits.specs.Checks.{first, none}
 use Rattle.limits.specs.Outcome.{Outcome, done, refused, is_done, number_of, values_of}

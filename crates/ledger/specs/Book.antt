@@ -1,6 +1,6 @@
 -- Document 01, 'The quote book': what each call answers, and what it does to the record and the columns, for every record and columns a caller can pass.
-use Rattle.std.specs.Prelude.{ℕ, ◌+◌, ◌*◌, Bool, not, ◌||◌, leb, ltb, eqb, set, Float}
-use Rattle.floats.specs.Operators.{decimal, if◌then◌else◌}
+use Rattle.std.specs.Prelude.{ℕ, ◌+◌, ◌*◌, Bool, not, ◌||◌, leb, ltb, eqb, set, Float, if◌then◌else◌}
+use Rattle.floats.specs.Operators.{decimal}
 use Rattle.limits.specs.Ranges.{is_spot, is_strike, is_expiry, is_rate}
 use Rattle.limits.specs.Checks.{first, none}
 use Rattle.limits.specs.Outcome.{Outcome, done, refused, answered}

@@ -1,9 +1,9 @@
 -- Demand 3, "a single claim on the list and its build": for every model, accepted opening, columns and buffers of any content and length, and list of
 -- offers. A field for each sentence.
-use Rattle.std.specs.Prelude.{ℕ, ◌+◌, ◌≤◌, ◌<◌, ◌≡◌, Bool, true, false, not, ◌||◌, ltb, leb, eqb, length, take, drop, get_or, Float}
+use Rattle.std.specs.Prelude.{ℕ, ◌+◌, ◌≤◌, ◌<◌, ◌≡◌, Bool, true, false, not, ◌||◌, ltb, leb, eqb, length, take, drop, get_or, Float, if◌then◌else◌}
 use mathlib.Core.List.{List, [], ◌∷◌, ◌++◌, Memᴰ, map}
 use Rattle.std.specs.Float.{nan}
-use Rattle.floats.specs.Operators.{decimal, ◌⊖◌, if◌then◌else◌}
+use Rattle.floats.specs.Operators.{decimal, ◌⊖◌}
 use Rattle.limits.specs.Ranges.{is_price, is_spot, is_rate, is_strike, is_expiry, is_volatility}
 use Rattle.limits.specs.Checks.{first, none}
 use Rattle.limits.specs.Outcome.{Outcome, done, refused, is_done, number_of, values_of, answered}

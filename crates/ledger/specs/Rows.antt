@@ -1,7 +1,7 @@
 -- Offers, answers and figures as rows of numbers, for calls on lent memory: which entry is which stands here alone, and `Rows` says it of every row.
-use Rattle.std.specs.Prelude.{ℕ, min, ◌≡◌, Bool, true, false, List, [], ◌∷◌, eqb, get_or, Float}
+use Rattle.std.specs.Prelude.{ℕ, min, ◌≡◌, Bool, true, false, List, [], ◌∷◌, eqb, get_or, Float, if◌then◌else◌}
 use Rattle.std.specs.Float.{nan}
-use Rattle.floats.specs.Operators.{decimal, if◌then◌else◌}
+use Rattle.floats.specs.Operators.{decimal}
 use Rattle.limits.specs.Checks.{none}
 use Rattle.limits.specs.Outcome.{Outcome, done, refused, number_of, values_of}
 use Rattle.brent.specs.declared.Solution.{Solution}

@@ -1,7 +1,6 @@
 -- Document 01, 'What demand 3 compares': the plain tally. It is fed the opening's inputs, whether 1 holds of the columns, and each offer's inputs; it
 -- reads no answer and nothing of a record. "Another model changes only" the prices.
-use Rattle.std.specs.Prelude.{ℕ, ◌+◌, Bool, false, not, ◌||◌, List, [], ◌∷◌, ◌++◌, leb, length, Float}
-use Rattle.floats.specs.Operators.{if◌then◌else◌}
+use Rattle.std.specs.Prelude.{ℕ, ◌+◌, Bool, false, not, ◌||◌, List, [], ◌∷◌, ◌++◌, leb, length, Float, if◌then◌else◌}
 use Rattle.limits.specs.Ranges.{is_price, is_strike, is_expiry, is_volatility}
 use Rattle.limits.specs.Outcome.{done, refused}
 use Rattle.brent.specs.Outcome.{Reply, asking, ended}

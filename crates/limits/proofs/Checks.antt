@@ -1,5 +1,6 @@
 -- A line of checks gives its number exactly where its check holds; else the lines after it decide. And what that comes to for a whole chain, said once for
 -- chains of any length. Assumes nothing.
+use Rattle.std.specs.Prelude.{if◌then◌else◌}
 use mathlib.Core.Path.{◌≡◌, refl, sym}
 use mathlib.Core.Bool.{Bool, true, false, not, ◌||◌, ◌&&◌, true≢false}
 use mathlib.Core.List.{List, [], ◌∷◌}
@@ -7,7 +8,6 @@ use Prim.Native.Nat.{ℕ, ◌<◌}
 use native.Mathlib.Omega.{arith}
 use lib.Dec.{ltb, leb, eqb}
 use borrow.Author.Tests.{ltb-true, leb-true, eq-eqb, ne_eqb, lt-leb, not-true}
-use Rattle.floats.specs.Operators.{if◌then◌else◌}
 use Rattle.floats.proofs.Tests.{clash, and_left, and_right, or_left_false, or_right_false}
 use Rattle.limits.specs.Checks.{first, none}
 

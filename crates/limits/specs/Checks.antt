@@ -1,6 +1,5 @@
 -- Document 01: "Each call makes those checks below that concern its inputs and stops at the first that holds; the number is given in no other circumstance."
-use Rattle.std.specs.Prelude.{ℕ, Bool}
-use Rattle.floats.specs.Operators.{if◌then◌else◌}
+use Rattle.std.specs.Prelude.{ℕ, Bool, if◌then◌else◌}
 
 -- A line of a call's checks: the number where the check holds, else what the checks after it say.
 unfoldable pub first : Bool → ℕ → ℕ → ℕ

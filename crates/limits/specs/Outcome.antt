@@ -1,6 +1,5 @@
 -- What a call answers in document 01's terms, for an answer that is an enum in the code; and what it leaves in lent memory.
-use Rattle.std.specs.Prelude.{ℕ, Bool, true, false, eqb}
-use Rattle.floats.specs.Operators.{if◌then◌else◌}
+use Rattle.std.specs.Prelude.{ℕ, Bool, true, false, eqb, if◌then◌else◌}
 use Rattle.limits.specs.Checks.{none}
 
 -- Done with its values, or refused with one number of the table. "A refusal's value fields are 0.0 and its own counts 0, except all the evaluations

@@ -1,4 +1,5 @@
 -- A blank strike of a reading is not answered by the expiry's number. Assumes nothing.
+use Rattle.std.specs.Prelude.{if◌then◌else◌}
 use Prim.Native.Nat.{ℕ}
 use mathlib.Core.Path.{◌≡◌, refl, sym, subst}
 use mathlib.Core.Bool.{Bool, true, false, cond, not}
@@ -7,7 +8,7 @@ use borrow.Author.Tests.{eq-eqb}
 use lib.Dec.{eqb}
 use lib.ListN.{get_or, take}
 use lib.Ieee.{Float, nan, inf, fin, le}
-use Rattle.floats.specs.Operators.{◌≼◌, if◌then◌else◌}
+use Rattle.floats.specs.Operators.{◌≼◌}
 use Rattle.floats.proofs.Tests.{by, clash}
 use Rattle.limits.specs.Ranges.{within}
 use Rattle.limits.specs.Checks.{first, none}

@@ -1,11 +1,12 @@
 -- The numbers that frames are answered with. Assumes nothing.
+use Rattle.std.specs.Prelude.{if◌then◌else◌}
 use Prim.Native.Nat.{ℕ}
 use mathlib.Core.Path.{◌≡◌, refl}
 use mathlib.Core.Bool.{Bool, true, not, ◌&&◌, cond}
 use lib.Dec.{leb, eqb}
 use borrow.Author.Tests.{leb-true, eq-eqb, not-true}
 use lib.Ieee.{Float}
-use Rattle.floats.specs.Operators.{decimal, if◌then◌else◌}
+use Rattle.floats.specs.Operators.{decimal}
 use Rattle.floats.proofs.Tests.{by, clash, and_left, and_right}
 use Rattle.limits.specs.Checks.{first, none}
 use Rattle.limits.specs.Outcome.{Outcome, done, refused, values_of, answered}

@@ -1,7 +1,6 @@
 -- What the calls of this crate promise: the answer, the record, and every lent entry.
-use Rattle.std.specs.Prelude.{ℕ, ◌*◌, Bool, true, false, List, [], ◌∷◌, ◌++◌, eqb, ltb, length, drop}
+use Rattle.std.specs.Prelude.{ℕ, ◌*◌, Bool, true, false, List, [], ◌∷◌, ◌++◌, eqb, ltb, length, drop, if◌then◌else◌}
 use Prim.Native.Char.{code}
-use Rattle.floats.specs.Operators.{if◌then◌else◌}
 use Rattle.ledger.specs.Book.{Columns, zero_book}
 use Rattle.ledger.specs.Claim.{Ledger}
 use Rattle.ledger.specs.declared.Book.{Book}

@@ -1,6 +1,5 @@
 -- The program as a run of turns, one for each read: a turn gets the state, the columns and the buffer as the last one left them.
-use Rattle.std.specs.Prelude.{ℕ, List, [], ◌∷◌, ◌++◌, take}
-use Rattle.floats.specs.Operators.{if◌then◌else◌}
+use Rattle.std.specs.Prelude.{ℕ, List, [], ◌∷◌, ◌++◌, take, if◌then◌else◌}
 use Rattle.ledger.specs.Book.{Columns}
 use Rattle.protocol.specs.Calls.{Left, Turned, turned}
 use Rattle.protocol.specs.declared.State.{State}

@@ -1,9 +1,8 @@
 -- Document 01, 'Square root': "correctly rounded as IEEE 754 says, stated by whole-number squares."
-use Rattle.std.specs.Prelude.{◌≡◌, false, ℕ, zero, suc, ◌+◌, ◌*◌, ◌/◌, ◌^◌, ◌<◌, T, leb, Float}
+use Rattle.std.specs.Prelude.{◌≡◌, false, ℕ, zero, suc, ◌+◌, ◌*◌, ◌/◌, ◌^◌, ◌<◌, T, leb, Float, if◌then◌else◌}
 use Rattle.std.specs.Float.{nan, inf, fin, binary64}
 use Rattle.std.specs.Float.Ieee.{size, odd, fits}
 use Rattle.std.specs.Float.Ieee.Positive.{positive}
-use Rattle.floats.specs.Operators.{if◌then◌else◌}
 use Rattle.floats.specs.Values.{not_negative}
 use Rattle.floats.specs.Wholes.{units_of}
 

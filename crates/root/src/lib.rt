@@ -2,8 +2,7 @@
 // rounding. The numbers in brackets are clauses of its edition of 2019.
 #![tactic(auto)]
 
-ghost use Rattle.std.specs.Prelude.{◌≡◌, ◌+◌, ◌*◌, ◌/◌, ◌%◌, ◌^◌, ◌≤◌, ◌<◌, eqb};
-ghost use Rattle.floats.specs.Operators.{if◌then◌else◌};
+ghost use Rattle.std.specs.Prelude.{◌≡◌, ◌+◌, ◌*◌, ◌/◌, ◌%◌, ◌^◌, ◌≤◌, ◌<◌, eqb, if◌then◌else◌};
 ghost use Rattle.root.specs.Root.{SquareRoot, whole_root};
 ghost use Rattle.root.specs.Steps.{Stepped};
 

@@ -1,10 +1,10 @@
 -- What the reply to a start says of the market price: a solver that asks has one, and its two ends; one that does not ask has none. Assumes nothing.
+use Rattle.std.specs.Prelude.{if◌then◌else◌}
 use mathlib.Core.Path.{◌≡◌, refl}
 use mathlib.Core.Bool.{Bool, true, false}
 use Prim.Native.Nat.{ℕ}
 use native.Mathlib.Omega.{arith}
 use lib.Ieee.{Float}
-use Rattle.floats.specs.Operators.{if◌then◌else◌}
 use Rattle.limits.specs.Ranges.{is_price, lowest_volatility}
 use Rattle.limits.specs.Outcome.{Outcome}
 use Rattle.brent.specs.declared.Solution.{Solution}

@@ -1,10 +1,10 @@
 // A volatility surface of quotes: axes, cells and counts, as `VolSurface::from_points` of src/options/surface.rs makes them.
 #![tactic(auto)]
 
-ghost use Rattle.std.specs.Prelude.{◌≡◌, true, ◌∷◌, ◌++◌, suc, ◌+◌, ◌-◌, ◌≤◌, ◌<◌, T, eqb, length, take, drop, get_or};
+ghost use Rattle.std.specs.Prelude.{◌≡◌, true, ◌∷◌, ◌++◌, suc, ◌+◌, ◌-◌, ◌≤◌, ◌<◌, T, eqb, length, take, drop, get_or, if◌then◌else◌};
 ghost use Rattle.std.specs.Float.{nan};
 ghost use Rattle.std.specs.Float.Ieee.Positive.{positive};
-ghost use Rattle.floats.specs.Operators.{decimal, ◌≺◌, ◌⊘◌, if◌then◌else◌};
+ghost use Rattle.floats.specs.Operators.{decimal, ◌≺◌, ◌⊘◌};
 ghost use Rattle.grid.specs.Search.{first_where};
 ghost use Rattle.grid.specs.Layout.{cell_at, values};
 ghost use Rattle.chart.specs.Quotes.{columns_of, quotes};

@@ -1,11 +1,11 @@
 -- An offer from its number to what it leaves. Assumes nothing.
+use Rattle.std.specs.Prelude.{if◌then◌else◌}
 use mathlib.Core.Path.{◌≡◌, refl, sym}
 use mathlib.Core.Bool.{Bool, true, false}
 use Prim.Native.Nat.{ℕ, ◌<◌}
 use native.Mathlib.Omega.{arith}
 use lib.Dec.{eqb}
 use borrow.Author.Tests.{eq-eqb, ne_eqb, eqb-true}
-use Rattle.floats.specs.Operators.{if◌then◌else◌}
 use Rattle.limits.specs.Checks.{none}
 use Rattle.limits.specs.Outcome.{done, refused}
 use Rattle.brent.specs.declared.Solution.{Solution}

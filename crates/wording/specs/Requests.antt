@@ -1,8 +1,7 @@
 -- What a line asks: by its name of six characters and the number of its words.
-use Rattle.std.specs.Prelude.{ℕ, Bool, true, false, ◌&&◌, List, [], ◌∷◌, eqb, ltb, get_or, Float}
+use Rattle.std.specs.Prelude.{ℕ, Bool, true, false, ◌&&◌, List, [], ◌∷◌, eqb, ltb, get_or, Float, if◌then◌else◌}
 use Rattle.std.specs.Float.{binary64}
 use Rattle.std.specs.Float.Ieee.{of_bits}
-use Rattle.floats.specs.Operators.{if◌then◌else◌}
 use Rattle.hexlines.specs.Examples.{bytes}
 use Rattle.blackscholes.specs.declared.OptionParams.{OptionParams}
 use Rattle.ledger.specs.Rows.{kind_of}

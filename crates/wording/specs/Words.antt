@@ -1,8 +1,7 @@
 -- The words of an answer: which figure stands at which place. A float is written as its bits, a count or a number as itself.
-use Rattle.std.specs.Prelude.{ℕ, List, [], ◌∷◌, Float}
+use Rattle.std.specs.Prelude.{ℕ, List, [], ◌∷◌, Float, if◌then◌else◌}
 use Rattle.std.specs.Float.{binary64}
 use Rattle.std.specs.Float.Ieee.{to_bits}
-use Rattle.floats.specs.Operators.{if◌then◌else◌}
 use Rattle.limits.specs.Ranges.{is_price, lowest_volatility, highest_volatility}
 use Rattle.limits.specs.Outcome.{Outcome, number_of, values_of}
 use Rattle.brent.specs.declared.Solution.{Solution}

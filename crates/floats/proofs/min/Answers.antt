@@ -1,8 +1,8 @@
 -- `floats::min`: a first operand that differs from itself is a not-a-number; a second one is below nothing. Assumes nothing.
+use Rattle.std.specs.Prelude.{if◌then◌else◌}
 use mathlib.Core.Path.{◌≡◌, refl, sym, ◌∙◌}
 use mathlib.Core.Bool.{Bool, true, false}
 use lib.Ieee.{Float, is_nan}
-use Rattle.floats.specs.Operators.{if◌then◌else◌}
 use Rattle.floats.specs.Values.{minimum}
 use Rattle.floats.proofs.Signs.{nan_is, below_some}
 use Rattle.floats.proofs.min.Goals as goal

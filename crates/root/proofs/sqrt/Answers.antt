@@ -1,5 +1,6 @@
 -- `root::sqrt`: the four tests leave a float above 0. Its digits, with an even exponent, stand under the root; the root of these, rounded, is the
 -- definition's (Squares), and that this is the nearest is Nearest's law. Assumes nothing.
+use Rattle.std.specs.Prelude.{if◌then◌else◌}
 use mathlib.Core.Path.{◌≡◌, refl, sym, ap, ◌∙◌, subst}
 use mathlib.Core.Bool.{Bool, false, not}
 use Prim.Native.Nat.{ℕ, zero, suc, ◌+◌, ◌*◌, ◌/◌, ◌%◌, ◌^◌, ◌≤◌, ◌<◌}
@@ -9,7 +10,6 @@ use lib.Dec.{T, eqb}
 use lib.Ieee.{Float, nan, inf, fin, binary64, fits, of_bits, nan_bits, div, size, round}
 use lib.Ieee.Compare.{differs_from_itself}
 use lib.Ieee.Positive.{positive}
-use Rattle.floats.specs.Operators.{if◌then◌else◌}
 use Rattle.floats.proofs.Signs.{Negative, Zero, is_negative, is_zero, is_infinity, is_positive}
 use Rattle.floats.proofs.Tests.{by, clash}
 use Rattle.floats.specs.Wholes.{units_of}
