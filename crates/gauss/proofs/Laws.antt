@@ -6,7 +6,7 @@ use Prim.Native.Nat.{◌^◌}
 use lib.Ieee.{Float, neg}
 use Rattle.floats.specs.Operators.{decimal, ◌⊖◌, ◌⊗◌, ◌⊘◌, ◌≺◌}
 use Rattle.elementary.specs.Exp.{exp}
-use Rattle.gauss.specs.Erfc.{erfc, erfc_from_zero, series, fraction}
+use Rattle.gauss.specs.Erfc.{erfc, series, fraction}
 use Rattle.gauss.specs.Laws.{Laws}
 use Rattle.gauss.proofs.Mirror as mirror
 

@@ -10,7 +10,6 @@ use Rattle.grid.specs.Readings.{reading, read_outcome}
 use Rattle.grid.specs.declared.Reading.{Reading}
 use Rattle.chart.specs.Build.{outcome}
 use Rattle.chart.specs.declared.Built.{Built}
-use Rattle.chart.specs.declared.Built.TheVariants as Built
 use Rattle.ledger.specs.Model.{bsm}
 use Rattle.ledger.specs.Book.{Columns}
 use Rattle.ledger.specs.Calls.{Offers}

@@ -14,9 +14,7 @@ use Rattle.limits.specs.Outcome.{Outcome, number_of, answered}
 use Rattle.limits.proofs.Answers.{number_answered}
 use Rattle.gaps.specs.Gaps.{fill_outcome, fill_refusal, FillsGaps}
 use Rattle.gaps.specs.declared.Filling.{Filling}
-use Rattle.gaps.specs.declared.Filling.TheVariants as Filling
 use Rattle.chart.specs.declared.Built.{Built}
-use Rattle.chart.specs.declared.Built.TheVariants as Built
 use Rattle.chart.specs.Quotes.{Quote, Columns}
 use Rattle.chart.specs.Cells.{axes}
 use Rattle.chart.specs.Build.{Buffers, Lengths, no_lengths, lengths, outcome, Builds}
@@ -28,7 +26,6 @@ use Rattle.ledger.specs.Claim.{tallied, surface_refusal}
 use Rattle.trays.specs.Tray.{Lent, shut, heard, reply_of, last_ledger, tray_reply, QuotesTray}
 use Rattle.ledger.specs.declared.Book.{Book}
 use Rattle.trays.specs.declared.Tray.{Tray}
-use Rattle.trays.specs.declared.Tray.TheVariants as Tray
 use Rattle.host.specs.Calls.{filling_in, built_in, lengths_of, BuildsFor, is_opening, book_in, tray_in, book_of, totals_of, built_of, QuotesFor}
 use Rattle.host.proofs.Told.{Numbered, numbered_answer}
 

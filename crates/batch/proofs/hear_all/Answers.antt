@@ -1,15 +1,12 @@
-use Prim.Native.Nat.{◌-◌, ◌≤◌, ◌<◌}
-use mathlib.Core.Path.{◌≡◌, refl, ◌∙◌}
+use Prim.Native.Nat.{◌<◌}
+use mathlib.Core.Path.{refl, ◌∙◌}
 use native.Mathlib.Omega.{arith}
-use lib.ListN.{length, length-set}
+use lib.ListN.{length-set}
 use Rattle.ledger.specs.Model.{bsm}
 use Rattle.ledger.specs.Book.{columns_of}
-use Rattle.ledger.specs.Fold.{after, along}
-use Rattle.ledger.specs.Claim.{Ledger, hear, reply}
-use Rattle.trays.specs.Tray.{offers, answers, handed_out}
-use Rattle.ledger.proofs.Lengths.{SameLengths, at_first, offer_lengths}
-use Rattle.trays.proofs.Listening.{Going, begins, read_offer, turn, finished}
-use borrow.Author.Rules.{rules}
+use Rattle.trays.specs.Tray.{answers}
+use Rattle.ledger.proofs.Lengths.{at_first, offer_lengths}
+use Rattle.trays.proofs.Listening.{begins, read_offer, turn, finished}
 use Rattle.batch.proofs.hear_all.Goals as goal
 
 pub loop-i-init : goal.loop-i-init

@@ -1,16 +1,14 @@
 -- `batch::hear_all`: what is left of the list, heard from where the book stands, ends where the whole list does. Assumes nothing.
-use Prim.Native.Nat.{◌-◌, ◌≤◌, ◌<◌}
-use mathlib.Core.Path.{◌≡◌, refl, ◌∙◌}
-use native.Mathlib.Omega.{arith}
-use lib.ListN.{length, length-set}
+use Prim.Native.Nat.{◌-◌, ◌≤◌}
+use mathlib.Core.Path.{◌≡◌}
+use lib.ListN.{length}
 use Rattle.ledger.specs.Model.{bsm}
 use Rattle.ledger.specs.Book.{columns_of}
 use Rattle.ledger.specs.Fold.{after, along}
 use Rattle.ledger.specs.Claim.{Ledger, hear, reply}
 use Rattle.trays.specs.Tray.{offers, answers, handed_out}
-use Rattle.ledger.proofs.Lengths.{SameLengths, at_first, offer_lengths}
-use Rattle.trays.proofs.Listening.{Going, begins, read_offer, turn, finished}
-use borrow.Author.Rules.{rules}
+use Rattle.ledger.proofs.Lengths.{SameLengths}
+use Rattle.trays.proofs.Listening.{Going}
 use Rattle.batch.proofs.hear_all.Given as goal
 
 abbrev pub invariant-loop-i : goal.invariant-loop-i

@@ -7,7 +7,6 @@ use Rattle.ledger.specs.Model.{Opening}
 use Rattle.ledger.specs.declared.Offer.{Offer}
 use Rattle.trays.specs.Tray.{offers, answers, Lent, lent, heard_offers}
 use Rattle.trays.proofs.Trays.{shut_tray, quoted_tray}
-use borrow.Author.Rules.{rules}
 use Rattle.batch.proofs.quote_tray.Goals as goal
 
 pub returns-in-Refused : goal.returns-in-Refused

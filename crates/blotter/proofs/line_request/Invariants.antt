@@ -1,7 +1,5 @@
 -- `blotter::line_request`: a word of six stands in the line. Assumes nothing.
-use native.Mathlib.Omega.{arith}
 use Prim.Native.Nat.{◌*◌, ◌-◌, ◌≤◌}
-use borrow.Author.Rules.{rules}
 use Rattle.blotter.proofs.line_request.Given as goal
 
 abbrev pub invariant-loop-i : goal.invariant-loop-i

@@ -1,5 +1,4 @@
 -- `blotter::main`: the turns are counted down. Assumes nothing.
-use native.Mathlib.Omega.{arith}
 use Rattle.blotter.proofs.main.Given as goal
 
 abbrev pub invariant-loop-turns : goal.invariant-loop-turns

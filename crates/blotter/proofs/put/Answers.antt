@@ -2,7 +2,6 @@
 use native.Mathlib.Omega.{arith}
 use mathlib.Core.Path.{sym}
 use lib.Seq.{length-take-le}
-use borrow.Author.Rules.{rules}
 use Rattle.blotter.proofs.put.Goals as goal
 
 pub slice_bounds-write_all-end : goal.slice_bounds-write_all-end

@@ -1,9 +1,7 @@
 -- `blotter::say`: a line of eight words fits in the text. Assumes nothing.
-use native.Mathlib.Omega.{arith}
 use mathlib.Core.Path.{◌≡◌}
 use lib.ListN.{length}
 use Prim.Native.Nat.{◌-◌, ◌≤◌}
-use borrow.Author.Rules.{rules}
 use Rattle.blotter.proofs.say.Given as goal
 
 abbrev pub invariant-loop-i : goal.invariant-loop-i

@@ -1,7 +1,4 @@
 use native.Mathlib.Omega.{arith}
-use lib.ListN.{length}
-use Prim.Native.Nat.{◌-◌, ◌≤◌}
-use borrow.Author.Rules.{rules}
 use Rattle.blotter.proofs.say_axis.Goals as goal
 
 pub loop-i-init : goal.loop-i-init

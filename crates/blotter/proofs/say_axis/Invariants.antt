@@ -1,8 +1,6 @@
 -- `blotter::say_axis`: no value past the end is read. Assumes nothing.
-use native.Mathlib.Omega.{arith}
 use lib.ListN.{length}
 use Prim.Native.Nat.{◌-◌, ◌≤◌}
-use borrow.Author.Rules.{rules}
 use Rattle.blotter.proofs.say_axis.Given as goal
 
 abbrev pub invariant-loop-i : goal.invariant-loop-i

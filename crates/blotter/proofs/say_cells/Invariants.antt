@@ -1,7 +1,5 @@
 -- `blotter::say_cells`: every place is inside. Assumes nothing.
-use native.Mathlib.Omega.{arith}
 use Prim.Native.Nat.{◌-◌, ◌≤◌}
-use borrow.Author.Rules.{rules}
 use Rattle.blotter.proofs.say_cells.Given as goal
 
 abbrev pub invariant-loop-at : goal.invariant-loop-at

@@ -1,7 +1,5 @@
 -- `blotter::take`: every byte is inside. Assumes nothing.
-use native.Mathlib.Omega.{arith}
 use Prim.Native.Nat.{◌-◌, ◌≤◌}
-use borrow.Author.Rules.{rules}
 use Rattle.blotter.proofs.take.Given as goal
 
 abbrev pub invariant-loop-at : goal.invariant-loop-at

@@ -4,7 +4,6 @@ use mathlib.Core.Bool.{false}
 use Rattle.ledger.specs.Book.{Columns, columns_of, is_short}
 use Rattle.ledger.specs.Build.{Buffers, buffers_of}
 use Rattle.book.proofs.Building.{by_1, by_2, by_surface}
-use borrow.Author.Rules.{rules}
 use Rattle.book.proofs.build.Goals as goal
 
 pub returns-then-is_short : goal.returns-then-is_short

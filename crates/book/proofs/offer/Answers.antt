@@ -6,7 +6,6 @@ use Rattle.ledger.specs.Model.{bsm}
 use Rattle.ledger.specs.Book.{Columns, columns_of, is_short, offer_outcome, columns_after}
 use Rattle.ledger.specs.Calls.{Replies}
 use Rattle.verdicts.proofs.Offering.{accepted, within}
-use borrow.Author.Rules.{rules}
 use Rattle.book.proofs.offer.Goals as goal
 
 pub returns-in_default : goal.returns-in_default

@@ -4,7 +4,6 @@ use borrow.Author.Tests.{eq-eqb, ne_eqb}
 use lib.Ieee.{of_bits, round}
 use Rattle.limits.specs.Outcome.{answered}
 use Rattle.ledger.specs.Book.{open_refusal, opened, outcome_of_opening}
-use borrow.Author.Rules.{rules}
 use Rattle.book.proofs.open.Goals as goal
 
 pub returns-then-number-ne0 : goal.returns-then-number-ne0

@@ -1,6 +1,5 @@
 -- `book::open_number`: line for line the definition. Assumes nothing.
 use Rattle.ledger.specs.Book.{open_refusal}
-use borrow.Author.Rules.{rules}
 use Rattle.book.proofs.open_number.Goals as goal
 
 pub returns : goal.returns

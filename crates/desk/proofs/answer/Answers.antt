@@ -4,7 +4,6 @@ use native.Mathlib.Omega.{arith}
 use lib.ListN.{length-take}
 use lib.Seq.{length-take-le}
 use Rattle.desk.proofs.Turns.{part_heard, none_heard}
-use borrow.Author.Rules.{rules}
 use Rattle.desk.proofs.answer.Goals as goal
 
 pub slice_bounds-hear-end : goal.slice_bounds-hear-end

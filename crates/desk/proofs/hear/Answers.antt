@@ -1,7 +1,6 @@
 -- `desk::hear`: the state after the turn is the one that is held. Assumes nothing.
 use Rattle.ledger.specs.Book.{Columns, columns_of}
 use Rattle.desk.proofs.Turns.{within, roomy, stopped, heard}
-use borrow.Author.Rules.{rules}
 use Rattle.desk.proofs.hear.Goals as goal
 
 pub write_text-requires : goal.write_text-requires

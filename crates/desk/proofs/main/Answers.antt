@@ -1,6 +1,5 @@
 -- `desk::main`: the buffer has 19 bytes for each byte of a read. Assumes nothing.
 use native.Mathlib.Omega.{arith}
-use borrow.Author.Rules.{rules}
 use Rattle.desk.proofs.main.Goals as goal
 
 pub serve-requires : goal.serve-requires

@@ -1,11 +1,10 @@
-use mathlib.Core.Path.{◌≡◌, refl, ◌∙◌}
+use mathlib.Core.Path.{refl}
 use native.Mathlib.Omega.{arith}
 use borrow.Author.Rules.{rules}
 use lib.ListN.{length}
 use Rattle.ledger.specs.Book.{columns_of}
 use Rattle.protocol.specs.Calls.{fresh}
 use Rattle.protocol.specs.Turns.{holds}
-use Rattle.desk.specs.Served.{Served}
 use Rattle.desk.proofs.Turns.{at_first, and_then}
 use Rattle.desk.proofs.serve.Goals as goal
 

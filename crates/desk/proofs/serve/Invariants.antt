@@ -1,13 +1,10 @@
 -- `desk::serve`: what is held is what turns on the parts read so far leave. Assumes nothing.
-use mathlib.Core.Path.{◌≡◌, refl, ◌∙◌}
-use native.Mathlib.Omega.{arith}
-use borrow.Author.Rules.{rules}
+use mathlib.Core.Path.{◌≡◌}
 use lib.ListN.{length}
 use Rattle.ledger.specs.Book.{columns_of}
 use Rattle.protocol.specs.Calls.{fresh}
 use Rattle.protocol.specs.Turns.{holds}
 use Rattle.desk.specs.Served.{Served}
-use Rattle.desk.proofs.Turns.{at_first, and_then}
 use Rattle.desk.proofs.serve.Given as goal
 
 abbrev pub invariant-loop-turns : goal.invariant-loop-turns

@@ -2,7 +2,6 @@
 use mathlib.Core.Path.{sym}
 use lib.Seq.{length-take-le}
 use native.Mathlib.Omega.{arith}
-use borrow.Author.Rules.{rules}
 use Rattle.desk.proofs.write_text.Goals as goal
 
 pub slice_bounds-put_out-end : goal.slice_bounds-put_out-end

@@ -1,6 +1,5 @@
 -- `hearing::asked_by`: an arm for each frame. Assumes nothing.
 use Rattle.protocol.specs.Hear.{asked_by}
-use borrow.Author.Rules.{rules}
 use Rattle.hearing.proofs.asked_by.Goals as goal
 
 pub returns-in-Open : goal.returns-in-Open

@@ -4,7 +4,6 @@ use Rattle.ledger.specs.Book.{columns_of}
 use Rattle.ledger.specs.Claim.{Ledger}
 use Rattle.protocol.specs.Hear.{ledger, answers}
 use Rattle.hearing.proofs.Hearing.{offered}
-use borrow.Author.Rules.{rules}
 use Rattle.hearing.proofs.hear.Goals as goal
 
 pub returns-in-Open : goal.returns-in-Open

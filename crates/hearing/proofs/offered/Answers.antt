@@ -1,6 +1,5 @@
 -- `hearing::offered`: an arm for each case. Assumes nothing.
 use lib.Ieee.{of_bits, round}
-use borrow.Author.Rules.{rules}
 use Rattle.blackscholes.specs.Implied.{outcome_of_implied}
 use Rattle.protocol.specs.Hear.{said}
 use Rattle.hearing.proofs.offered.Goals as goal

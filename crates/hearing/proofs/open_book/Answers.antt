@@ -1,11 +1,7 @@
 -- `hearing::open_book`: an arm for each case of the opening's answer. Assumes nothing.
 use lib.Ieee.{of_bits, round}
-use borrow.Author.Rules.{rules}
 use Rattle.ledger.specs.Book.{outcome_of_opening}
 use Rattle.protocol.specs.Hear.{said, opens}
-use Rattle.hearing.proofs.open_book.Reads as reads
-use Rattle.hearing.proofs.open_book.Lts as lts
-use Rattle.book.proofs.open.Reads as open-reads
 use Rattle.hearing.proofs.open_book.Goals as goal
 
 pub returns-in-Fresh : goal.returns-in-Fresh

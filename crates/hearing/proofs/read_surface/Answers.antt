@@ -1,6 +1,5 @@
 -- `hearing::read_surface`: the build's answer decides whether the grid is read. Assumes nothing.
 use lib.Ieee.{of_bits, round}
-use borrow.Author.Rules.{rules}
 use Rattle.ledger.specs.Book.{columns_of}
 use Rattle.ledger.specs.Claim.{Ledger}
 use Rattle.protocol.specs.Hear.{ledger}

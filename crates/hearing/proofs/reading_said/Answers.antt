@@ -1,6 +1,5 @@
 -- `hearing::reading_said`: an arm for each case. Assumes nothing.
 use lib.Ieee.{of_bits, round}
-use borrow.Author.Rules.{rules}
 use Rattle.protocol.specs.Hear.{said}
 use Rattle.hearing.proofs.reading_said.Goals as goal
 

@@ -2,7 +2,6 @@
 use Rattle.ledger.specs.Money.{money_outcome}
 use Rattle.host.specs.Answers.{money_entries}
 use Rattle.host.proofs.Told.{numbered_money, told_over}
-use borrow.Author.Rules.{rules}
 use Rattle.host.proofs.kite_at_the_money.Goals as goal
 
 pub returns : goal.returns

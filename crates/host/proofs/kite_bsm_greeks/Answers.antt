@@ -3,7 +3,6 @@ use mathlib.Core.Path.{ap}
 use Rattle.blackscholes.specs.Checks.{outcome_of_greeks}
 use Rattle.host.specs.Answers.{greeks_entries}
 use Rattle.host.proofs.Told.{numbered_sensitivities, told_over}
-use borrow.Author.Rules.{rules}
 use Rattle.host.proofs.kite_bsm_greeks.Goals as goal
 
 pub returns : goal.returns

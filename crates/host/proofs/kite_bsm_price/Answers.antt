@@ -1,7 +1,6 @@
 -- `host::kite_bsm_price`: the number and the value are those of the answer, and no refusal is 0. Assumes nothing.
 use Rattle.blackscholes.specs.Checks.{outcome_of_price}
 use Rattle.host.proofs.Told.{numbered_pricing, told_same}
-use borrow.Author.Rules.{rules}
 use Rattle.host.proofs.kite_bsm_price.Goals as goal
 
 pub returns : goal.returns

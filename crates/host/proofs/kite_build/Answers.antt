@@ -1,6 +1,5 @@
 -- `host::kite_build`: the number and the lengths stand for the answer of the build below. Assumes nothing.
 use Rattle.host.proofs.Lending.{builds}
-use borrow.Author.Rules.{rules}
 use Rattle.host.proofs.kite_build.Goals as goal
 
 pub returns : goal.returns

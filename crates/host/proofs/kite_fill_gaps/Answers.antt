@@ -1,6 +1,5 @@
 -- `host::kite_fill_gaps`: the number stands for the answer of the filler below. Assumes nothing.
 use Rattle.host.proofs.Lending.{fills}
-use borrow.Author.Rules.{rules}
 use Rattle.host.proofs.kite_fill_gaps.Goals as goal
 
 pub returns : goal.returns

@@ -9,7 +9,6 @@ use Rattle.ledger.specs.Book.{end_of}
 use Rattle.trays.specs.Tray.{numbers_of, evidence_of}
 use Rattle.host.specs.Answers.{written, solved_written}
 use Rattle.host.proofs.Told.{numbered_implied, told_over}
-use borrow.Author.Rules.{rules}
 use Rattle.host.proofs.kite_implied_volatility.Goals as goal
 
 pub returns : goal.returns

@@ -1,7 +1,6 @@
 -- `host::kite_interpolate`: the number and the value are those of the answer, and no refusal is 0. Assumes nothing.
 use Rattle.grid.specs.Readings.{read_outcome}
 use Rattle.host.proofs.Told.{numbered_reading, told_same}
-use borrow.Author.Rules.{rules}
 use Rattle.host.proofs.kite_interpolate.Goals as goal
 
 pub returns : goal.returns

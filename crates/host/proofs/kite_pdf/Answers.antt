@@ -1,5 +1,4 @@
 -- `host::kite_pdf`: the call below. Assumes nothing.
-use borrow.Author.Rules.{rules}
 use Rattle.host.proofs.kite_pdf.Goals as goal
 
 pub returns : goal.returns

@@ -5,7 +5,6 @@ use Rattle.chart.specs.declared.Built.{Built}
 use Rattle.limits.specs.Outcome.{number_of}
 use Rattle.host.specs.Calls.{lengths_of, totals_of}
 use Rattle.host.proofs.Lending.{quotes}
-use borrow.Author.Rules.{rules}
 use Rattle.host.proofs.kite_quote_tray.Goals as goal
 
 pub returns : goal.returns

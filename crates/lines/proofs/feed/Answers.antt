@@ -1,4 +1,4 @@
-use Prim.Native.Nat.{◌-◌, ◌*◌, ◌≤◌, ◌<◌}
+use Prim.Native.Nat.{◌<◌}
 use mathlib.Core.Path.{◌≡◌, ap, ◌∙◌}
 use native.Mathlib.Omega.{arith}
 use lib.ListN.{length}
@@ -7,7 +7,7 @@ use Rattle.ledger.proofs.Lengths.{SameLengths}
 use Rattle.hexlines.specs.Lines.{cap, feeds}
 use Rattle.lines.specs.Moves.{place}
 use Rattle.lines.specs.declared.Progress.{Progress}
-use Rattle.protocol.proofs.Going.{Hearing, hearing_start}
+use Rattle.protocol.proofs.Going.{hearing_start}
 use Rattle.lines.proofs.Turning.{turn_room, turn, last_turn}
 use Rattle.lines.proofs.Leaving.{chunk_short, chunk_fed}
 use borrow.Author.Rules.{rules}

@@ -1,17 +1,11 @@
 -- `lines::feed`: room for the answers; then a line a turn, and what is left of the chunk is held. Assumes nothing.
-use Prim.Native.Nat.{◌-◌, ◌*◌, ◌≤◌, ◌<◌}
-use mathlib.Core.Path.{◌≡◌, ap, ◌∙◌}
-use native.Mathlib.Omega.{arith}
+use Prim.Native.Nat.{◌-◌, ◌*◌, ◌≤◌}
+use mathlib.Core.Path.{◌≡◌}
 use lib.ListN.{length}
-use Rattle.ledger.specs.Book.{Columns, columns_of}
-use Rattle.ledger.proofs.Lengths.{SameLengths}
-use Rattle.hexlines.specs.Lines.{cap, feeds}
+use Rattle.ledger.specs.Book.{columns_of}
+use Rattle.hexlines.specs.Lines.{feeds}
 use Rattle.lines.specs.Moves.{place}
-use Rattle.lines.specs.declared.Progress.{Progress}
-use Rattle.protocol.proofs.Going.{Hearing, hearing_start}
-use Rattle.lines.proofs.Turning.{turn_room, turn, last_turn}
-use Rattle.lines.proofs.Leaving.{chunk_short, chunk_fed}
-use borrow.Author.Rules.{rules}
+use Rattle.protocol.proofs.Going.{Hearing}
 use Rattle.lines.proofs.feed.Given as goal
 
 abbrev pub invariant-loop-heard : goal.invariant-loop-heard

@@ -2,7 +2,6 @@
 use Rattle.ledger.specs.Book.{columns_of}
 use Rattle.lines.specs.Moves.{place}
 use Rattle.protocol.proofs.Going.{line_ended}
-use borrow.Author.Rules.{rules}
 use Rattle.lines.proofs.line_ended.Goals as goal
 
 pub returns : goal.returns

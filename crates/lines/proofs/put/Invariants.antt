@@ -1,11 +1,8 @@
 -- `lines::put`: the bytes before i are pasted. Assumes nothing.
-use mathlib.Core.Path.{◌≡◌, refl}
+use mathlib.Core.Path.{◌≡◌}
 use lib.ListN.{length}
-use native.Mathlib.Omega.{arith}
 use Prim.Native.Nat.{◌-◌, ◌≤◌}
-use native.Mathlib.Numerals.{add-one}
-use lib.ListN.{length-set}
-use lib.Seq.{paste, paste-zero, paste-suc}
+use lib.Seq.{paste}
 use Rattle.lines.proofs.put.Given as goal
 
 abbrev pub invariant-loop-i : goal.invariant-loop-i

@@ -1,6 +1,5 @@
 -- `lines::start`: zeros, and no line. Assumes nothing.
 use lib.Ieee.{of_bits, round}
-use borrow.Author.Rules.{rules}
 use Rattle.lines.proofs.start.Goals as goal
 
 pub returns : goal.returns

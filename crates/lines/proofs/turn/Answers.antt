@@ -1,5 +1,4 @@
 -- `lines::turn`: an empty part ends the input, any other is heard. Assumes nothing.
-use borrow.Author.Rules.{rules}
 use Rattle.ledger.specs.Book.{columns_of}
 use Rattle.protocol.specs.Calls.{turned}
 use Rattle.protocol.proofs.Rooms.{at_end, at_chunk}

@@ -1,7 +1,5 @@
 -- `lines_test::front`: a copy of the first 19 bytes. Assumes nothing.
 use Prim.Native.Nat.{◌≤◌, ◌-◌}
-use native.Mathlib.Omega.{arith}
-use borrow.Author.Rules.{rules}
 use Rattle.lines_test.proofs.front.Given as goal
 
 abbrev pub invariant-loop-i : goal.invariant-loop-i

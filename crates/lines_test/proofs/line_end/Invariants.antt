@@ -1,6 +1,5 @@
 -- `lines_test::line_end`: the search stays within the input. Assumes nothing.
 use Prim.Native.Nat.{◌≤◌, ◌-◌}
-use native.Mathlib.Omega.{arith}
 use lib.ListN.{length}
 use Rattle.lines_test.proofs.line_end.Given as goal
 

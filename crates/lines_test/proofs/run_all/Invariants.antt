@@ -1,8 +1,6 @@
 -- `lines_test::run_all`: each line is behind the last. Assumes nothing.
 use Prim.Native.Nat.{◌+◌, ◌≤◌, ◌-◌}
-use native.Mathlib.Omega.{arith}
 use lib.ListN.{length}
-use borrow.Author.Rules.{rules}
 use Rattle.lines_test.proofs.run_all.Given as goal
 
 abbrev pub invariant-loop-from : goal.invariant-loop-from

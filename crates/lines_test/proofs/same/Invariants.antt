@@ -1,7 +1,5 @@
 -- `lines_test::same`: byte by byte. Assumes nothing.
 use Prim.Native.Nat.{◌≤◌, ◌-◌}
-use native.Mathlib.Omega.{arith}
-use borrow.Author.Rules.{rules}
 use Rattle.lines_test.proofs.same.Given as goal
 
 abbrev pub invariant-loop-i : goal.invariant-loop-i

@@ -4,7 +4,6 @@ use Rattle.ledger.specs.Book.{is_broken}
 use Rattle.ledger.proofs.AtMoney.{money_broken, money_value, money_refused}
 use mathlib.Core.Bool.{false}
 use mathlib.Core.Path.{◌≡◌, sym, ap, ◌∙◌}
-use borrow.Author.Rules.{rules}
 use Rattle.money.proofs.at_the_money.Goals as goal
 
 pub returns-then-is_broken : goal.returns-then-is_broken

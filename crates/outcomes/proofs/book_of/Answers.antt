@@ -1,6 +1,5 @@
 -- `outcomes::book_of`: an arm for each case. Assumes nothing.
 use Rattle.trays.specs.Tray.{book_of}
-use borrow.Author.Rules.{rules}
 use Rattle.outcomes.proofs.book_of.Goals as goal
 
 pub returns-in-Refused : goal.returns-in-Refused

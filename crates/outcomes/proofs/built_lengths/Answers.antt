@@ -1,6 +1,5 @@
 -- `outcomes::built_lengths`: an arm for each case. Assumes nothing.
 use Rattle.ledger.specs.Rows.{lengths_of}
-use borrow.Author.Rules.{rules}
 use Rattle.outcomes.proofs.built_lengths.Goals as goal
 
 pub returns-in-Surface : goal.returns-in-Surface

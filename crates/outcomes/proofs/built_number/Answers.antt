@@ -1,5 +1,4 @@
 -- `outcomes::built_number`: an arm for each case. Assumes nothing.
-use borrow.Author.Rules.{rules}
 use Rattle.outcomes.proofs.built_number.Goals as goal
 
 pub returns-in-Surface : goal.returns-in-Surface

@@ -1,6 +1,5 @@
 -- `outcomes::built_of`: an arm for each case. Assumes nothing.
 use Rattle.trays.specs.Tray.{built_of}
-use borrow.Author.Rules.{rules}
 use Rattle.outcomes.proofs.built_of.Goals as goal
 
 pub returns-in-Refused : goal.returns-in-Refused

@@ -1,5 +1,4 @@
 -- `outcomes::filling_number`: an arm for each case. Assumes nothing.
-use borrow.Author.Rules.{rules}
 use Rattle.outcomes.proofs.filling_number.Goals as goal
 
 pub returns-in-Done : goal.returns-in-Done

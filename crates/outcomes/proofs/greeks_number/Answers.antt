@@ -1,6 +1,5 @@
 -- `outcomes::greeks_number`: an arm for each case. Assumes nothing.
 use Rattle.blackscholes.specs.Checks.{outcome_of_greeks}
-use borrow.Author.Rules.{rules}
 use Rattle.outcomes.proofs.greeks_number.Goals as goal
 
 pub returns-in-Found : goal.returns-in-Found

@@ -1,6 +1,5 @@
 -- `outcomes::money_values`: an arm for each case. Assumes nothing.
 use lib.Ieee.{round, of_bits}
-use borrow.Author.Rules.{rules}
 use Rattle.outcomes.proofs.money_values.Goals as goal
 
 pub returns-in-Value : goal.returns-in-Value

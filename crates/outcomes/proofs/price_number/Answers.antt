@@ -1,6 +1,5 @@
 -- `outcomes::price_number`: an arm for each case. Assumes nothing.
 use Rattle.blackscholes.specs.Checks.{outcome_of_price}
-use borrow.Author.Rules.{rules}
 use Rattle.outcomes.proofs.price_number.Goals as goal
 
 pub returns-in-Price : goal.returns-in-Price

@@ -1,7 +1,6 @@
 -- `outcomes::price_value`: an arm for each case. Assumes nothing.
 use lib.Ieee.{round, of_bits}
 use Rattle.blackscholes.specs.Checks.{outcome_of_price}
-use borrow.Author.Rules.{rules}
 use Rattle.outcomes.proofs.price_value.Goals as goal
 
 pub returns-in-Price : goal.returns-in-Price

@@ -1,5 +1,4 @@
 -- `outcomes::reading_number`: an arm for each case. Assumes nothing.
-use borrow.Author.Rules.{rules}
 use Rattle.outcomes.proofs.reading_number.Goals as goal
 
 pub returns-in-Value : goal.returns-in-Value

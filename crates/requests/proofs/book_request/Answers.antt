@@ -1,7 +1,6 @@
 -- `requests::book_request`: a test a request, then what is left. Assumes nothing.
 use mathlib.Core.Path.{sym, ◌∙◌}
 use Rattle.wording.specs.Requests.{book_request}
-use borrow.Author.Rules.{rules}
 use Rattle.requests.proofs.book_request.Goals as goal
 
 pub returns-then-is : goal.returns-then-is

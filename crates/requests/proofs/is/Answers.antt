@@ -1,7 +1,6 @@
 -- `requests::is`: the tests side by side. Assumes nothing.
 use Rattle.wording.specs.Requests.{called, same}
 use mathlib.Core.Path.{refl}
-use borrow.Author.Rules.{rules}
 use Rattle.requests.proofs.is.Goals as goal
 
 pub returns : goal.returns

@@ -2,7 +2,6 @@
 use borrow.Author.Tests.{lt-ltb, le-ltb}
 use mathlib.Core.Path.{sym, ◌∙◌}
 use Rattle.wording.specs.Requests.{model_request}
-use borrow.Author.Rules.{rules}
 use Rattle.requests.proofs.model_request.Goals as goal
 
 pub returns-then-x-gt1 : goal.returns-then-x-gt1

@@ -1,5 +1,4 @@
 -- `requests::offered`: the words as floats, in their order. Assumes nothing.
-use borrow.Author.Rules.{rules}
 use Rattle.requests.proofs.offered.Goals as goal
 
 pub returns : goal.returns

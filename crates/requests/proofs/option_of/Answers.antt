@@ -1,6 +1,5 @@
 -- `requests::option_of`: the words in their order. Assumes nothing.
 use Rattle.wording.specs.Requests.{option_of}
-use borrow.Author.Rules.{rules}
 use Rattle.requests.proofs.option_of.Goals as goal
 
 pub returns : goal.returns

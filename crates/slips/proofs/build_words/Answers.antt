@@ -1,6 +1,5 @@
 -- `slips::build_words`: an arm for each case. Assumes nothing.
 use Rattle.wording.specs.Words.{build_words}
-use borrow.Author.Rules.{rules}
 use Rattle.slips.proofs.build_words.Goals as goal
 
 pub returns-in-Surface : goal.returns-in-Surface

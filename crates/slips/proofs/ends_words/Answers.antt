@@ -3,7 +3,6 @@ use Rattle.brent.specs.Feed.{fresh}
 use Rattle.brent.specs.Outcome.{outcome}
 use Rattle.wording.specs.Words.{ends_words, value_words}
 use Rattle.slips.proofs.Starts.{asked, unpriced}
-use borrow.Author.Rules.{rules}
 use Rattle.slips.proofs.ends_words.Goals as goal
 
 pub returns-in_default : goal.returns-in_default

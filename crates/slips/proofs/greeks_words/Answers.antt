@@ -3,7 +3,6 @@ use mathlib.Core.Path.{sym}
 use lib.Ieee.{to_bits, round}
 use Rattle.blackscholes.specs.Checks.{outcome_of_greeks}
 use Rattle.wording.specs.Words.{greeks_words}
-use borrow.Author.Rules.{rules}
 use Rattle.slips.proofs.greeks_words.Goals as goal
 
 pub returns-in-Found : goal.returns-in-Found

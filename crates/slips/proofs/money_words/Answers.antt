@@ -1,7 +1,6 @@
 -- `slips::money_words`: an arm for each case. Assumes nothing.
 use lib.Ieee.{to_bits, round}
 use Rattle.wording.specs.Words.{money_words}
-use borrow.Author.Rules.{rules}
 use Rattle.slips.proofs.money_words.Goals as goal
 
 pub returns-in-Value : goal.returns-in-Value

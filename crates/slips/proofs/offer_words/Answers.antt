@@ -1,7 +1,6 @@
 -- `slips::offer_words`: the rows of an answer, entry by entry. Assumes nothing.
 use Rattle.ledger.specs.Rows.{numbers_of, evidence_of}
 use Rattle.wording.specs.Words.{offer_words}
-use borrow.Author.Rules.{rules}
 use Rattle.slips.proofs.offer_words.Goals as goal
 
 pub returns : goal.returns

@@ -3,7 +3,6 @@ use mathlib.Core.Path.{sym}
 use lib.Ieee.{to_bits, round}
 use Rattle.blackscholes.specs.Checks.{outcome_of_price}
 use Rattle.wording.specs.Words.{value_words}
-use borrow.Author.Rules.{rules}
 use Rattle.slips.proofs.price_words.Goals as goal
 
 pub returns-in-Price : goal.returns-in-Price

@@ -1,7 +1,6 @@
 -- `slips::read_words`: an arm for each case. Assumes nothing.
 use lib.Ieee.{to_bits, round}
 use Rattle.wording.specs.Words.{value_words}
-use borrow.Author.Rules.{rules}
 use Rattle.slips.proofs.read_words.Goals as goal
 
 pub returns-in-Value : goal.returns-in-Value

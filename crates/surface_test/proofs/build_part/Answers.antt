@@ -1,5 +1,5 @@
 -- `surface_test::build_part`: a part is as long as its number says, which is at most what is lent. Assumes nothing.
-use Rattle.std.proofs.Common.{sym, length-take-le, rules}
+use Rattle.std.proofs.Common.{sym, length-take-le}
 use Rattle.surface_test.proofs.build_part.Goals as goal
 
 pub slice_bounds-build-end : goal.slice_bounds-build-end

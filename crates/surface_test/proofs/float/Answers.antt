@@ -1,6 +1,6 @@
 -- `surface_test::float`: with the sign taken off, a pattern above the infinity's is a not-a-number's. Assumes nothing.
 use lib.Ieee.Bits.{nan_bits_above}
-use Rattle.std.proofs.Common.{◌∙◌, rules, le-ltb}
+use Rattle.std.proofs.Common.{◌∙◌, le-ltb}
 use lib.Ieee.{binary64}
 use Rattle.surface_test.proofs.float.Goals as goal
 

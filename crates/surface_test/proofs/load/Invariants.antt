@@ -1,5 +1,5 @@
 -- `surface_test::load`: n quotes fit the columns. Assumes nothing.
-use Rattle.std.proofs.Common.{◌≡◌, ◌-◌, ◌≤◌, length, arith, length-set, rules}
+use Rattle.std.proofs.Common.{◌≡◌, ◌-◌, ◌≤◌, length}
 use Rattle.surface_test.proofs.load.Given as goal
 
 abbrev pub invariant-loop-i : goal.invariant-loop-i

@@ -1,5 +1,5 @@
 -- `surface_test::moneys`: each read answers. Assumes nothing.
-use Rattle.std.proofs.Common.{◌-◌, ◌≤◌, rules}
+use Rattle.std.proofs.Common.{◌-◌, ◌≤◌}
 use Rattle.surface_test.proofs.moneys.Given as goal
 
 abbrev pub invariant-loop-i : goal.invariant-loop-i

@@ -1,5 +1,5 @@
 -- `surface_test::poke`: a place past the end is passed over. Assumes nothing.
-use Rattle.std.proofs.Common.{◌≡◌, ◌-◌, ◌≤◌, length, rules}
+use Rattle.std.proofs.Common.{◌≡◌, ◌-◌, ◌≤◌, length}
 use Rattle.surface_test.proofs.poke.Given as goal
 
 abbrev pub invariant-loop-i : goal.invariant-loop-i

@@ -1,5 +1,5 @@
 -- `surface_test::reads`: each read answers. Assumes nothing.
-use Rattle.std.proofs.Common.{◌-◌, ◌≤◌, rules}
+use Rattle.std.proofs.Common.{◌-◌, ◌≤◌}
 use Rattle.surface_test.proofs.reads.Given as goal
 
 abbrev pub invariant-loop-i : goal.invariant-loop-i

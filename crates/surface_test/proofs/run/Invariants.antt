@@ -1,5 +1,5 @@
 -- `surface_test::run`: each round makes a call. Assumes nothing.
-use Rattle.std.proofs.Common.{◌≡◌, ◌-◌, ◌≤◌, length, rules}
+use Rattle.std.proofs.Common.{◌≡◌, ◌-◌, ◌≤◌, length}
 use Rattle.surface_test.proofs.run.Given as goal
 
 abbrev pub invariant-loop-calls : goal.invariant-loop-calls

@@ -1,5 +1,5 @@
 -- `surface_test::say_axis`: no value past the end is read. Assumes nothing.
-use Rattle.std.proofs.Common.{◌-◌, ◌≤◌, rules}
+use Rattle.std.proofs.Common.{◌-◌, ◌≤◌}
 use Rattle.surface_test.proofs.say_axis.Given as goal
 
 abbrev pub invariant-loop-i : goal.invariant-loop-i

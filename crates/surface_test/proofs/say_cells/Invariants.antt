@@ -1,5 +1,5 @@
 -- `surface_test::say_cells`: every place is inside. Assumes nothing.
-use Rattle.std.proofs.Common.{◌≡◌, ◌-◌, ◌≤◌, length, rules}
+use Rattle.std.proofs.Common.{◌≡◌, ◌-◌, ◌≤◌, length}
 use Rattle.surface_test.proofs.say_cells.Given as goal
 
 abbrev pub invariant-loop-p : goal.invariant-loop-p

@@ -1,5 +1,5 @@
 -- `surface_test::say_counts`: every place is inside. Assumes nothing.
-use Rattle.std.proofs.Common.{◌-◌, ◌≤◌, length, rules}
+use Rattle.std.proofs.Common.{◌-◌, ◌≤◌, length}
 use Rattle.surface_test.proofs.say_counts.Given as goal
 
 abbrev pub invariant-loop-i : goal.invariant-loop-i

@@ -1,5 +1,5 @@
 -- `surface_test::word`: the 16 digits stand inside the input. Assumes nothing.
-use Rattle.std.proofs.Common.{◌+◌, ◌-◌, ◌≤◌, length, rules}
+use Rattle.std.proofs.Common.{◌+◌, ◌-◌, ◌≤◌, length}
 use Rattle.surface_test.proofs.word.Given as goal
 
 abbrev pub invariant-loop-i : goal.invariant-loop-i
