@@ -50,7 +50,6 @@ returns-then-made-eq0 c =
       eq-eqb _ _ c.if-made-eq0.true,
     )
 
--- in a round: `tested` is the place after the test of convergence, `filled` the one after the error is put in
 pub returns-then-converged : goal.returns-then-converged
 unfolding feed
 returns-then-converged c =
