@@ -5,7 +5,7 @@ use std::{env, fs, path::Path, path::PathBuf};
 type List = &'static [(&'static str, &'static str)];
 
 /// Document 01's exp, ln, root and erfc stand for the standard ones ("in the oracle too").
-const MEANINGS: [(&str, List); 3] = [
+const MEANINGS: [(&str, List); 4] = [
     (
         "normal",
         &[
@@ -16,6 +16,7 @@ const MEANINGS: [(&str, List); 3] = [
         ],
     ),
     ("greeks", &[(".exp()", ".exp_01()"), (".ln()", ".ln_01()")]),
+    ("option_strategies", &[(".exp()", ".exp_01()"), (".ln()", ".ln_01()")]),
     ("surface", &[]),
 ];
 
@@ -41,6 +42,27 @@ const FED: List = &[
     ("bsm_price(&p).unwrap_or(f64::NAN) - market_price", "crate::notes::fed(p.volatility) - market_price"),
     ("return Ok(b);", "crate::notes::found(b, fb, c, fc);\n            return Ok(b);"),
 ];
+
+/// The solver with a yield. The Rust's knows none, and S-6 makes `bsm_call` and `bsm_put` the reference for prices: the option gets a yield, and where the
+/// solver asks for a price it asks for theirs (`theirs`). Its steps stay as they are.
+const CARRIED: List = &[
+    ("pub risk_free_rate: f64,", "pub risk_free_rate: f64,\n    pub dividend_yield: f64,"),
+    ("bsm_price(&p).unwrap_or(f64::NAN)", "theirs(&p)"),
+];
+
+/// The price by `bsm_call` and `bsm_put` of a module.
+fn theirs(strategies: &str) -> String {
+    format!(
+        "
+pub fn theirs(p: &OptionParams) -> f64 {{
+    match p.option_type {{
+        OptionType::Call => crate::{strategies}::bsm_call(p.spot, p.strike, p.risk_free_rate, p.dividend_yield, p.volatility, p.time_to_expiry),
+        OptionType::Put => crate::{strategies}::bsm_put(p.spot, p.strike, p.risk_free_rate, p.dividend_yield, p.volatility, p.time_to_expiry),
+    }}
+}}
+"
+    )
+}
 
 /// For the comparison alone: the fields and the gap filler of a surface are private to its module.
 const OPENED: &str = "
@@ -79,6 +101,7 @@ fn of<T: Copy>(table: &[(&str, T)], file: &str) -> T {
 fn module(root: &Path, name: &str, file: &str, lists: &[List], more: &str) -> String {
     let path = root.join(match file {
         "normal" => "src/normal.rs".to_string(),
+        "option_strategies" => "src/derivatives/option_strategies.rs".to_string(),
         _ => format!("src/options/{file}.rs"),
     });
     println!("cargo:rerun-if-changed={}", path.display());
@@ -94,12 +117,17 @@ fn main() {
     println!("cargo:rerun-if-changed=build.rs");
     let here = PathBuf::from(env::var("CARGO_MANIFEST_DIR").unwrap());
     let root = env::var("FIN_PRIMITIVES").map(PathBuf::from).unwrap_or_else(|_| here.join("../../shared/docs/src"));
-    let (normal, greeks, surface) = (of(&MEANINGS, "normal"), of(&MEANINGS, "greeks"), of(&MEANINGS, "surface"));
+    let [normal, greeks, surface, strategies] = ["normal", "greeks", "surface", "option_strategies"].map(|file| of(&MEANINGS, file));
     let all = module(&root, "normal", "normal", &[normal], "")
         + &module(&root, "greeks", "greeks", &[greeks, PROCESSOR], "")
         + &module(&root, "greeks_digits", "greeks", &[greeks, DIGITS], "")
         + &module(&root, "greeks_noted", "greeks", &[greeks, PROCESSOR, of(&NOTES, "greeks")], "")
         + &module(&root, "greeks_fed", "greeks", &[greeks, PROCESSOR, FED], "")
+        + &module(&root, "strategies", "option_strategies", &[strategies, PROCESSOR], "")
+        + &module(&root, "strategies_digits", "option_strategies", &[strategies, DIGITS], "")
+        + &module(&root, "carried", "greeks", &[greeks, PROCESSOR, CARRIED], &theirs("strategies"))
+        + &module(&root, "carried_digits", "greeks", &[greeks, DIGITS, CARRIED], &theirs("strategies_digits"))
+        + &module(&root, "carried_noted", "greeks", &[greeks, PROCESSOR, of(&NOTES, "greeks"), CARRIED], &theirs("strategies"))
         + &module(&root, "surface", "surface", &[surface], "")
         + &module(&root, "surface_noted", "surface", &[surface, of(&NOTES, "surface")], OPENED);
     let out = PathBuf::from(env::var("OUT_DIR").unwrap()).join("fin_primitives.rs");

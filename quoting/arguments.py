@@ -16,13 +16,14 @@ A tray is a CSV file as a spreadsheet saves it:
   vol,450,0.5,0.2435
 
 kind is call or put, with the market price as value, or vol, with the volatility (0.2435 or 24.35%).
-expiry is in years: three months are 0.25. docs/QUOTE.md says more.
+expiry is in years: three months are 0.25. A yield goes beside the rate: spot,452.25,rate,0.05,yield,0.02.
+For options on futures write futures in the place of spot: futures,452.25,rate,0.05. docs/QUOTE.md says more.
 
 exit status: 0 quoted (refused rows are results), 1 the program or the output fails, 2 the input is at fault,
 3 with --strict, something was refused.
 '''
 # Options whose value may begin with a minus.
-SIGNED = ('--spot', '--rate', '--at')
+SIGNED = ('--spot', '--futures', '--rate', '--yield', '--at')
 
 
 class Shown(argparse.Action):
@@ -43,7 +44,9 @@ def parser():
         description='Quotes trays of options: the volatility of each row or why it is refused, and the surface.')
     made.add_argument('trays', metavar='TRAY.csv', nargs='+', help='a tray; - for standard input')
     made.add_argument('--spot', metavar='S', help='the spot; else a row spot,S before the header')
+    made.add_argument('--futures', metavar='F', help='a futures price in the place of the spot, with the rate as yield; else a row futures,F')
     made.add_argument('--rate', metavar='R', help='the rate, as 0.05 or 5%%; else a row rate,R before the header')
+    made.add_argument('--yield', metavar='Q', help='the dividend or convenience yield, as 0.02 or 2%%; else a row yield,Q, else 0')
     made.add_argument('--at', metavar='STRIKE,EXPIRY', action='append', default=[], help='read the surface there; may be given several times')
     made.add_argument('--greeks', action='store_true', help='the model price and the greeks of each accepted row')
     made.add_argument('--csv', metavar='FILE', help='write every row, cell and reading to FILE; - for standard output in the place of the tables')

@@ -3,7 +3,7 @@
 import os
 import sys
 
-from quoting import arguments, blotter, building, doubts, outputs, picture, quoted, records, report, sheet, tables, tray
+from quoting import arguments, blotter, building, doubts, opening, outputs, picture, quoted, records, report, sheet, tables, tray
 from quoting.faults import InputError
 
 DONE, FAILED, WRONG_INPUT, REFUSED, INTERRUPTED = 0, 1, 2, 3, 130
@@ -24,21 +24,6 @@ def say(words):
 
 
 # ---- the input
-
-def settings(options, found):
-    """Spot and rate: an option before the tray's own row."""
-    chosen = {}
-    for name in tray.SETTINGS:
-        given = getattr(options, name)
-        if given is not None:
-            chosen[name] = tray.option(name, given)
-        elif name in found:
-            chosen[name] = found[name]
-        else:
-            raise InputError('there is no %s; give --%s or a row %s,%s before the header' % (
-                name, name, name, '450' if name == 'spot' else '0.05'))
-    return chosen
-
 
 def names(paths):
     """What the trays are called: without their folders where that tells them apart."""
@@ -74,7 +59,7 @@ def write(files, results, chosen, warned):
 def draw(path, result, chosen, warnings):
     """The picture of a tray, with the number of its warnings: it may travel without them."""
     counts = tables.counts(result.rows) + ('; %s' % tables.plural(len(warnings), 'warning') if warnings else '')
-    drawn = picture.svg(result.surface, result.spot, report.heading(result, chosen), counts)
+    drawn = picture.svg(result.surface, result.opening, report.heading(result, chosen), counts)
     if drawn is None:
         older = '; the file of that name is an older one' if os.path.exists(path) else ''
         say('there is no surface, so nothing is drawn in %s%s' % (sheet.name_of(path), older))
@@ -97,7 +82,7 @@ def quote(options):
     if paths.count(sheet.STANDARD_INPUT) > 1:
         raise InputError('standard input can be read once; give - once')
     found = each(paths, lambda i: tray.read(paths[i]))
-    chosen = each(paths, lambda i: settings(options, found[i].settings))
+    chosen = each(paths, lambda i: opening.chosen(options, found[i].settings))
     path = blotter.program()
     results = each(paths, lambda i: quoted.quote(path, called[i], found[i], chosen[i], points, options.greeks))
     warned = [doubts.of(result) for result in results]

@@ -11,6 +11,8 @@ from quoting.quoted import NOT_BRACKETED, accepted
 LONG_EXPIRY = 5.0
 # 200 %. Above are prices that lost their decimal point and percents typed without their sign.
 HIGH_VOLATILITY = 2.0
+# 40 % a year, either way. The range of a rate and a yield ends at 100 %, so that 1 typed for 1 % and 0.5 for 0.5 % are inside it.
+HIGH_RATE = 0.4
 # Two volatility points: a bid and an ask of one option are seldom further apart, two quotes of different days often are.
 FAR_APART = 0.02
 # One point: by put-call parity a call and a put have the same volatility, so that only the ticks of their prices part them.
@@ -59,18 +61,29 @@ def told(rows, words):
     return Warning([row.quote.line for row in rows], '%s; %s' % (shown, words))
 
 
-def of_cell(rows):
+def of_cell(rows, settings):
     """The warning of a cell's quotes that do not go together, if any."""
     calls, puts = [[row for row in rows if row.quote.kind == kind] for kind in ('call', 'put')]
     widest = max(product(apart(calls), apart(puts)), key=gap) if calls and puts else None
     if widest and gap(widest) > PARITY:
-        yield told(apart(widest), 'a call and a put of one strike and expiry have one volatility; are spot and rate right?')
+        *more, last = settings
+        yield told(apart(widest), 'a call and a put of one strike and expiry have one volatility; are %s and %s right?' % (', '.join(more), last))
     elif gap(rows) > FAR_APART:
         yield told(apart(rows), 'quotes of one cell far apart; it holds their mean')
 
 
+def of_settings(settings):
+    """What is doubtful in the rate and the yield."""
+    for name in ('rate', 'yield'):
+        value = settings.get(name, 0.0)
+        if abs(value) > HIGH_RATE:
+            yield '%s %s is %s %% a year; is that meant?' % (name, exact(value), in_percent(value))
+
+
 def of(quoted):
-    """The warnings of a tray, by line."""
-    found = [Warning([row.quote.line], 'line %d: %s' % (row.quote.line, words)) for row in quoted.rows for words in of_row(row)]
-    found += [warning for rows in by_cell(quoted) for warning in of_cell(rows)]
+    """The warnings of a tray, by line; what is doubtful in its settings is told of every row."""
+    settings = quoted.opening.settings
+    found = [Warning([row.quote.line for row in quoted.rows], words) for words in of_settings(settings)]
+    found += [Warning([row.quote.line], 'line %d: %s' % (row.quote.line, words)) for row in quoted.rows for words in of_row(row)]
+    found += [warning for rows in by_cell(quoted) for warning in of_cell(rows, settings)]
     return sorted(found, key=lambda warning: warning.lines)

@@ -37,7 +37,7 @@ def is_ours(path):
         with open(path, 'rb') as file:
             first = file.readline()
         # A tray may begin with a blank line.
-        return not first or first.strip() == ','.join(records.COLUMNS).encode()
+        return not first or first.strip() in [','.join(columns).encode() for columns in (records.COLUMNS, records.EARLIER_COLUMNS)]
     except OSError:
         # Writing tells what is wrong.
         return True

@@ -89,12 +89,12 @@ def place_of(surface, best):
     return '%s percent at strike %s, expiry %s years' % (in_percent(value), exact(surface.strikes[j]), exact(surface.expiries[i]))
 
 
-def description(surface, spot):
+def description(surface, opening):
     """The picture in words, for those who do not see it."""
     cells = [c for row in surface.cells for c in row]
-    out = ['Implied volatilities of %d strikes, %s to %s, and %d expiries, %s to %s years; the spot is %s.' % (
+    out = ['Implied volatilities of %d strikes, %s to %s, and %d expiries, %s to %s years; the %s is %s.' % (
         len(surface.strikes), exact(surface.strikes[0]), exact(surface.strikes[-1]),
-        len(surface.expiries), exact(surface.expiries[0]), exact(surface.expiries[-1]), exact(spot))]
+        len(surface.expiries), exact(surface.expiries[0]), exact(surface.expiries[-1]), opening.called, exact(opening.spot))]
     quoted = sum(c.count > 0 for c in cells)
     out.append('Of %d cells %d are quoted and %d are filled from their row.' % (len(cells), quoted, len(cells) - quoted))
     out.append('The lowest is %s; the highest is %s.' % (place_of(surface, min), place_of(surface, max)))
@@ -118,7 +118,7 @@ def page(height, title, desc, styles, body):
     ] + body + ['</svg>', ''])
 
 
-def svg(surface, spot, tray, counts):
+def svg(surface, opening, tray, counts):
     """The picture of a surface whose tray is told as NAME: FACTS; None where there is no surface to draw."""
     if not surface.strikes:
         return None
@@ -128,9 +128,9 @@ def svg(surface, spot, tray, counts):
     place_map(sheets, heat_map.Map(surface))
     lines = 0
     if len(surface.strikes) * len(surface.expiries) > 1:
-        charts = smiles.Charts(surface, spot)
+        charts = smiles.Charts(surface, opening)
         place_charts(sheets, charts)
         lines = charts.most_lines()
     height = round(sheets.y + MARGIN - 26)
     styles = smiles.style(smiles.LINES, lines), smiles.style(smiles.DARK_LINES, lines)
-    return page(height, 'Implied volatility: %s' % printable(tray), description(surface, spot), styles, sheets.heads() + sheets.out)
+    return page(height, 'Implied volatility: %s' % printable(tray), description(surface, opening), styles, sheets.heads() + sheets.out)

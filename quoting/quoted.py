@@ -2,7 +2,7 @@
 
 from collections import namedtuple
 
-from quoting import blotter, refusals
+from quoting import blotter, opening
 from quoting.faults import InputError
 from quoting.numbers import exact
 
@@ -21,7 +21,7 @@ Row = namedtuple('Row', 'quote answer ends silent price greeks')
 Reading = namedtuple('Reading', 'strike expiry number volatility')
 # The surface at the money of an expiry; count: how many quotes the cell there is of, None of a refusal.
 Money = namedtuple('Money', 'expiry strike number volatility count')
-Quoted = namedtuple('Quoted', 'name tray spot rate rows surface at_the_money readings')
+Quoted = namedtuple('Quoted', 'name tray opening rows surface at_the_money readings')
 
 
 def accepted(rows):
@@ -41,12 +41,16 @@ def as_put(quote):
     return int(quote.kind == 'put')
 
 
-def first_answers(path, opening, quotes, points):
+def first_line(told):
+    return blotter.line('open', told.spot, told.rate, told.dividend_yield)
+
+
+def first_answers(path, told, quotes, points):
     """What each quote is answered, the surface, and the surface read at the money and at some points."""
     offers = [blotter.line(q.kind, q.strike, q.expiry, q.value) for q in quotes]
     # Which expiries the surface has is known once it is built; each is that of a quote, bit for bit, so that all of theirs are asked for.
     money = list(dict.fromkeys(blotter.line('money', q.expiry) for q in quotes))
-    said = iter(blotter.ask(path, [opening, *offers, blotter.line('build'), *money, *(blotter.line('read', *point) for point in points)]))
+    said = iter(blotter.ask(path, [first_line(told), *offers, blotter.line('build'), *money, *(blotter.line('read', *point) for point in points)]))
     (opened,), answers, surface = next(said), [blotter.Evidence(*next(said)) for _ in offers], next(said)
     return opened, answers, surface, at_the_money(surface, dict(zip(money, said))), [Reading(*p, *r) for p, r in zip(points, said)]
 
@@ -63,9 +67,9 @@ def at_the_money(surface, said):
     return found
 
 
-def questions(spot, rate, quote, answer, greeks):
+def questions(told, quote, answer, greeks):
     """The further lines that a quote asks for, by what they are for."""
-    option = (as_put(quote), spot, quote.strike, quote.expiry, rate)
+    option = (as_put(quote), told.spot, quote.strike, quote.expiry, told.rate, told.dividend_yield)
     if answer.number == NOT_BRACKETED:
         yield 'ends', blotter.line('ends', as_put(quote), quote.strike, quote.expiry, quote.value)
     elif not answer.number:
@@ -103,10 +107,10 @@ def row_of(quote, answer, said):
         blotter.Greeks(*values(said['greeks'])) if 'greeks' in said else None)
 
 
-def rows_of(path, opening, spot, rate, quotes, answers, greeks):
+def rows_of(path, told, quotes, answers, greeks):
     """The rows with all that is asked of each once it was answered."""
-    asked = {(i, what): line for i, (q, a) in enumerate(zip(quotes, answers)) for what, line in questions(spot, rate, q, a, greeks)}
-    said = dict(zip(asked, blotter.ask(path, [opening] + list(asked.values()))[1:])) if asked else {}
+    asked = {(i, what): line for i, (q, a) in enumerate(zip(quotes, answers)) for what, line in questions(told, q, a, greeks)}
+    said = dict(zip(asked, blotter.ask(path, [first_line(told)] + list(asked.values()))[1:])) if asked else {}
     own = [{} for _ in quotes]
     for (i, what), words in said.items():
         own[i][what] = words
@@ -114,12 +118,10 @@ def rows_of(path, opening, spot, rate, quotes, answers, greeks):
 
 
 def quote(path, name, tray, chosen, points, greeks):
-    """Quote a tray with the spot and rate that were chosen, and read its surface at some points."""
-    spot, rate = chosen['spot'].value, chosen['rate'].value
-    opening = blotter.line('open', spot, rate)
-    opened, answers, *built = first_answers(path, opening, tray.quotes, points)
+    """Quote a tray with the settings that were chosen, and read its surface at some points."""
+    told = opening.of(chosen)
+    opened, answers, *built = first_answers(path, told, tray.quotes, points)
     if opened:
-        about = 'rate' if opened == 9 else 'spot'
-        raise InputError('%s: %s; no book was opened' % (chosen[about].source, refusals.of_input(about, chosen[about].value, opened)))
-    rows = rows_of(path, opening, spot, rate, tray.quotes, answers, greeks)
-    return Quoted(name, tray, spot, rate, rows, *built)
+        why = opening.refused(opened, chosen)
+        raise InputError(why) if why else blotter.BlotterError('the program refuses by %d what it was not given' % opened)
+    return Quoted(name, tray, told, rows_of(path, told, tray.quotes, answers, greeks), *built)

@@ -10,7 +10,9 @@ from quoting import VERSION, quoted, refusals
 QUOTE = ('line', 'kind', 'strike', 'expiry', 'value', 'number', 'words', 'volatility', 'error', 'c', 'c_error', 'evaluations')
 ENDS = ('low_price', 'high_price')
 GREEKS = ('model_price', 'delta', 'gamma', 'theta_year', 'theta_day', 'vega', 'vega_point', 'rho', 'vanna', 'volga')
-COLUMNS = ('tray', 'spot', 'rate', 'record') + QUOTE + ('says_nothing', 'count', 'warnings') + ENDS + GREEKS
+# The last two came later: the others keep their places.
+COLUMNS = ('tray', 'spot', 'rate', 'record') + QUOTE + ('says_nothing', 'count', 'warnings') + ENDS + GREEKS + ('futures', 'yield')
+EARLIER_COLUMNS = COLUMNS[:-2]
 
 
 def number(x):
@@ -60,6 +62,11 @@ def surface(built):
         'cells': [[cell.value for cell in row] for row in built.cells], 'counts': [[cell.count for cell in row] for row in built.cells]}
 
 
+def opened(opening):
+    """What a tray was quoted with, its price under the name that it was given by."""
+    return numbers({'spot': None, 'futures': None, **opening.settings, 'yield': opening.dividend_yield})
+
+
 def by_line(warnings):
     lines = {}
     for warning in warnings:
@@ -71,7 +78,7 @@ def by_line(warnings):
 def tray(found, warnings):
     lines = by_line(warnings)
     return {
-        'tray': found.name, 'spot': number(found.spot), 'rate': number(found.rate),
+        'tray': found.name, **opened(found.opening),
         'quotes': [row(each, lines.get(each.quote.line, [])) for each in found.rows],
         'surface': surface(found.surface), 'at_the_money': [money(each) for each in found.at_the_money],
         'readings': [reading(each) for each in found.readings], 'warnings': [w._asdict() for w in warnings]}
@@ -104,5 +111,5 @@ def as_csv(results, warned):
     writer.writeheader()
     for found in (tray(*pair) for pair in zip(results, warned)):
         for record in flat(found):
-            writer.writerow({**record, 'tray': found['tray'], 'spot': found['spot'], 'rate': found['rate']})
+            writer.writerow({**record, **{name: found[name] for name in ('tray', 'spot', 'futures', 'rate', 'yield')}})
     return text.getvalue()

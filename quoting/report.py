@@ -8,12 +8,14 @@ from quoting.numbers import exact
 
 
 def settings(result, chosen):
-    """Spot and rate in words, with what the tray says where an option goes before it."""
+    """What was given in words, with what the tray says where an option goes before it, and the yield of futures."""
     found = result.tray.settings
-    for name in tray.SETTINGS:
+    for name in (name for name in tray.SETTINGS if name in chosen):
         value = chosen[name].value
         differs = name in found and found[name].value != value
         yield '%s %s%s' % (name, exact(value), ' (the tray says %s)' % exact(found[name].value) if differs else '')
+    if result.opening.name == 'futures':
+        yield 'yield %s (the rate, Black 1976)' % exact(result.opening.dividend_yield)
 
 
 def heading(result, chosen):
@@ -34,7 +36,7 @@ def notes(found):
 def of_tray(result, chosen, warnings):
     width = shutil.get_terminal_size((100, 24)).columns
     parts = [[heading(result, chosen), *notes(result.tray)], tables.quotes(result.rows), [tables.counts(result.rows)], tables.warnings(warnings),
-             tables.greeks(result.rows, width), tables.surface(result.surface, width), tables.at_the_money(result),
+             tables.greeks(result, width), tables.surface(result.surface, width), tables.at_the_money(result),
              [tables.reading(found) for found in result.readings]]
     return '\n\n'.join('\n'.join(part) for part in parts if part) + '\n'
 

@@ -63,10 +63,10 @@ def spread(values, least):
 class Charts:
     """The lines of a surface. All charts have the same strikes; each has volatilities of its own."""
 
-    def __init__(self, surface, spot):
-        self.across_strikes = len(surface.strikes) > 1
+    def __init__(self, surface, opening):
+        self.across_strikes, self.called = len(surface.strikes) > 1, opening.called
         if self.across_strikes:
-            self.at, self.rows, self.spot = surface.strikes, surface.cells, spot
+            self.at, self.rows, self.spot = surface.strikes, surface.cells, opening.spot
             self.names = ['%s years' % name for name in axis_labels(surface.expiries)]
             self.title, self.caption = 'Smile of each expiry', 'Strike'
         else:
@@ -101,9 +101,10 @@ class Charts:
         out += [line(LEFT, bottom, right, bottom, 'edge'), text((LEFT + right) / 2, bottom + 42, self.caption, 13, 'soft', 'middle')]
         if self.spot is not None and self.least <= self.spot <= self.most:
             x = self.across(self.spot)
-            half = width_of('spot ' + exact(self.spot), 12) / 2
+            name = '%s %s' % (self.called, exact(self.spot))
+            half = width_of(name, 12) / 2
             out += [line(x, bottom - self.height, x, bottom, 'edge', ' stroke-dasharray="1 4"'),
-                    text(min(max(x, LEFT + half), right - half), bottom - self.height - 6, 'spot ' + exact(self.spot), 12, 'soft', 'middle')]
+                    text(min(max(x, LEFT + half), right - half), bottom - self.height - 6, name, 12, 'soft', 'middle')]
         return out
 
     def steps(self):
@@ -130,7 +131,7 @@ class Charts:
         if any(self.across(b) - self.across(a) < 0.5 for a, b in zip(self.at, self.at[1:])):
             yield '%s that are too close to be told apart here are in the map above' % ('Strikes' if self.across_strikes else 'Expiries')
         if self.spot is not None and not self.least <= self.spot <= self.most:
-            yield 'The spot, %s, is %s the strikes' % (exact(self.spot), 'below' if self.spot < self.least else 'above')
+            yield 'The %s, %s, is %s the strikes' % (self.called, exact(self.spot), 'below' if self.spot < self.least else 'above')
 
     def chart_height(self, first, last):
         return 14 + self.height + 56 + self.places(first, last)[1] + 22 * len(list(self.notes(first, last)))

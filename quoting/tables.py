@@ -87,9 +87,9 @@ def warnings(found):
 
 # ---- the greeks
 
-def greeks(rows, width):
+def greeks(found, width):
     """The model's price and greeks of each accepted row."""
-    rows = [row for row in rows if row.greeks]
+    rows = [row for row in found.rows if row.greeks]
     if not rows:
         return []
     sides = ['line  kind'] + ['%4d  %-4s' % (row.quote.line, row.quote.kind) for row in rows]
@@ -97,6 +97,8 @@ def greeks(rows, width):
     body = [list(named[0])] + [[rounded(x) for x in each.values()] for each in named]
     lines = ['Model price and greeks at each volatility, to six digits', ''] + in_blocks(sides, body, width)
     lines.append('theta_day is a %dth of theta_year; vega_point is for a volatility point, a %dth of vega' % (DAYS, POINTS))
+    if found.opening.name == 'futures':
+        lines.append('rho moves the rate and not the yield; in Black 1976 both move, and rho is minus expiry times model_price')
     return lines + (['a vol row is told as a call'] if any(row.quote.kind == 'vol' for row in rows) else [])
 
 
@@ -154,7 +156,7 @@ def at_the_money(found):
             lines.append((expiry, '', refusals.of_fields(money, money.number)))
         else:
             lines.append((expiry, labels[money.strike], noted(money.volatility, widest, '' if money.count else FILLED)))
-    return ['At the money: volatility at the strike nearest the spot, ' + exact(found.spot), ''] + aligned(lines)
+    return ['At the money: volatility at the strike nearest the %s, %s' % (found.opening.called, exact(found.opening.spot)), ''] + aligned(lines)
 
 
 def reading(found):

@@ -7,10 +7,12 @@ from quoting import header, numbers, sheet
 from quoting.faults import InputError, told
 
 KINDS = {'call': 'call', 'c': 'call', 'put': 'put', 'p': 'put', 'vol': 'vol'}
-SETTINGS = ('spot', 'rate')
+SETTINGS = ('spot', 'futures', 'rate', 'yield')
 HINTS = {
     'spot': 'a spot is a number, as 450 or 450.25',
+    'futures': 'a futures price is a number, as 450 or 450.25, and not in ticks',
     'rate': 'a rate is a number, as 0.05 or 5%',
+    'yield': 'a yield is a number, as 0.02 or 2%',
     'strike': 'a strike is a number, as 450 or 450.25',
     'expiry': 'an expiry is a number of years, as 0.25',
     'call': 'a price is a number, as 12.375',
@@ -21,7 +23,7 @@ NAMES_OF_TICKS = {parts: name for name, parts in header.TICKS.items()}
 
 # A blank strike, expiry or value is not-a-number; nothing else is.
 Quote = namedtuple('Quote', 'line kind strike expiry value')
-# A spot or a rate, and where it was given.
+# The number of a setting, and where it was given.
 Setting = namedtuple('Setting', 'value source')
 # The text of a number: its line and column, what the column holds there, the text, and the ticks to a whole where it is in ticks.
 Cell = namedtuple('Cell', 'line column holds text ticks')
@@ -31,20 +33,21 @@ Tray = namedtuple('Tray', 'quotes settings header decimal_comma')
 # ---- from rows to cells
 
 def settings_row(line, cells):
-    """Spot and rate, each followed by its number."""
+    """Settings, each followed by its number."""
     padded = cells + [''] * (len(cells) % 2)
     for name, text in zip(padded[0::2], padded[1::2]):
         if name.lower() in SETTINGS:
             yield Cell(line, name.lower(), name.lower(), text, None)
         elif name or text:
             raise InputError(
-                'line %d: found %s; before the header (kind, strike, expiry, value) only spot and rate may stand, each followed by its number'
-                % (line, told(name or text)))
+                'line %d: found %s; before the header (kind, strike, expiry, value) only spot or futures, rate and yield may stand, each followed by its '
+                'number' % (line, told(name or text)))
 
 
 def quote_row(line, cells, head):
     """A quote's kind and the cells of its numbers."""
-    if cells[0].lower() in SETTINGS:
+    # In a column that is not read any word may stand.
+    if cells[0].lower() in SETTINGS and 0 in head.places.values():
         raise InputError('line %d: %s must stand before the header' % (line, cells[0].lower()))
     if len(cells) <= max(head.places.values()):
         raise InputError('line %d: cells in this row: %d, in the header: %d; a blank cell needs its separator too' % (
@@ -65,7 +68,7 @@ def quote_row(line, cells, head):
 # ---- from cells to numbers
 
 def takes_percent(cell):
-    return cell.holds in ('rate', 'vol')
+    return cell.holds in ('rate', 'yield', 'vol')
 
 
 def bare(cell):
@@ -113,7 +116,7 @@ def not_a_number(cell):
 
 
 def option(name, text):
-    """The number given as --spot or --rate."""
+    """The number of a setting that is given as an option."""
     cell = Cell(0, name, name, text.strip(), None)
     value = numbers.nearest(bare(cell), bare(cell) != cell.text)
     if value is None:
@@ -124,7 +127,7 @@ def option(name, text):
 # ---- the whole
 
 def collect(rows):
-    """The cells of spot and rate, the quotes' cells, the faults of rows with their lines, and the header."""
+    """The cells of settings, the quotes' cells, the faults of rows with their lines, and the header."""
     settings, quotes, faults, head = [], [], [], None
     for line, cells in rows:
         if head is None and header.names_in(cells):

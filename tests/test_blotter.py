@@ -52,7 +52,7 @@ class Blotter(unittest.TestCase):
         """However the input comes, its bytes are one input: book, surface and the part of a line are held from read to read."""
         text, wanted = (OWN / 'stdin').read_bytes(), (OWN / 'stdout').read_bytes()
         self.assertTrue(len(text) > READ and not text.endswith(b'\n') and text[READ - 1 : READ] != b'\n')
-        for size in (1, 2, 7, 41, 57, 58, 59, 109, 110, 4096):
+        for size in (1, 2, 7, 41, 57, 58, 59, 109, 110, 125, 126, 127, 4096):
             with self.subTest(size=size):
                 self.assertEqual(self.in_reads([text[at : at + size] for at in range(0, len(text), size)]), wanted)
         lines = text.split(b'\n')
@@ -66,15 +66,15 @@ class Blotter(unittest.TestCase):
 
     def test_the_book_closes(self):
         """60,000 offers are heard and no more: 3, and an opening opens it again."""
-        lines = [own.line(b'open', 100.0, 0.05)] + [own.line(b'vol', 100.0, 0.5, 0.25)] * 1024 + [own.line(b'call', own.NAN, 0.5, 5.0)] * 58976
+        lines = [own.line(b'open', 100.0, 0.05, 0.02)] + [own.line(b'vol', 100.0, 0.5, 0.25)] * 1024 + [own.line(b'call', own.NAN, 0.5, 5.0)] * 58976
         lines += [own.line(b'vol', 100.0, 0.5, 0.25), own.line(b'build')]
-        lines += [own.line(b'open', 100.0, 0.05), own.line(b'vol', 100.0, 0.5, 0.25)]
+        lines += [own.line(b'open', 100.0, 0.05, 0.02), own.line(b'vol', 100.0, 0.5, 0.25)]
         run = self.run_blotter(b'\n'.join(lines))
         self.assertEqual(run.stdout, self.answers(*lines))
         self.assertEqual(run.stdout.split(b'\n')[60001], own.line(b'vol', 3, 0, 0.0, 0.0, 0.0, 0.0))
 
     def test_a_line_longer_than_a_read(self):
-        lines = [own.line(b'open', 100.0, 0.05), b'0' * (READ + 1000), own.line(b'vol', 100.0, 0.5, 0.25)]
+        lines = [own.line(b'open', 100.0, 0.05, 0.02), b'0' * (READ + 1000), own.line(b'vol', 100.0, 0.5, 0.25)]
         self.assertEqual(self.run_blotter(b'\n'.join(lines)).stdout, self.answers(*lines))
 
     def test_no_input_can_be_read(self):

@@ -48,6 +48,8 @@ class Refusals(unittest.TestCase):
     """A refusal is listed in all places or in none: a number that comes or leaves is not forgotten in one of them."""
 
     LISTED = re.findall(r'^## (\d+)\. ', (ROOT / 'docs/REFUSALS.md').read_text(), re.M)
+    # Of requests that are not in yet: 28 came before them.
+    NOT_YET = set(map(str, range(22, 28)))
 
     def alike(self, where, numbers):
         with self.subTest(where):
@@ -73,7 +75,8 @@ class Refusals(unittest.TestCase):
         self.assertEqual(set(self.LISTED) - set(given), set())
 
     def test_no_text_counts_up_to_a_number_that_left(self):
-        left = set(map(str, range(1, max(map(int, self.LISTED))))) - set(self.LISTED)
+        self.assertEqual(self.NOT_YET & set(self.LISTED), set())
+        left = set(map(str, range(1, max(map(int, self.LISTED))))) - set(self.LISTED) - self.NOT_YET
         self.assertEqual(left, {'14'})
         counted = re.compile(r'\b\d+(?: to |-| and | or |, )(\d+)\b(?!\.\d|,\d)')
         documents = ('README.md', 'docs/REFUSALS.md', 'docs/QUOTE.md', 'docs/LINES.md', 'docs/DIFFERENCES.md')

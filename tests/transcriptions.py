@@ -1,4 +1,4 @@
-"""The transcriptions of document 01 in Python that the vectors of the test programs come from (crates/*_test/vectors.py), for one another."""
+"""The transcriptions of documents 01 and 02 in Python that the vectors of the test programs come from (crates/*_test/vectors.py), for one another."""
 
 import importlib.util
 import sys

@@ -57,8 +57,8 @@ def priced():
     for t in EXPIRIES:
         for k in STRIKES:
             v = 0.25 + abs(k - 100.0) / 300
-            yield frame(11, k, t, model.price(("C", 100.0, k, t, 0.05), v))
-            yield frame(12, k, t, model.price(("P", 100.0, k, t, 0.05), v + 0.01))
+            yield frame(11, k, t, model.price(("C", 100.0, k, t, 0.05, 0.0), v))
+            yield frame(12, k, t, model.price(("P", 100.0, k, t, 0.05, 0.0), v + 0.01))
     for k in (80.0, 97.0, 100.0, 125.0):
         for t in (0.25, 0.4, 1.25):
             yield frame(20, k, t)

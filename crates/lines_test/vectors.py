@@ -35,6 +35,7 @@ class Program:
         return surface.within(1e-6, 1e9, self.spot) and surface.within(-1.0, 1.0, self.rate)
 
     def open(self, spot, rate):
+        """Document 02, S-6: "a 10 line sets it to 0", the yield."""
         number = 0 if surface.within(1e-6, 1e9, spot) else 6
         number = number or (0 if surface.within(-1.0, 1.0, rate) else 9)
         self.__init__()
@@ -64,7 +65,7 @@ class Program:
             except model.Refusal as r:
                 return r.args[0], 0.0
             return 0, value
-        number, _, volatility = model.run("sigma", ("C" if kind == "11" else "P", self.spot, strike, expiry, self.rate), value)
+        number, _, volatility = model.run("sigma", ("C" if kind == "11" else "P", self.spot, strike, expiry, self.rate, 0.0), value)
         return number, volatility
 
     def read(self, strike, expiry):
@@ -277,7 +278,7 @@ def priced(s):
     s.line(OPENING)
     for t in (0.25, 0.5, 1.25):
         for k in (80.0, 90.0, 100.0, 110.0, 125.0):
-            option = (100.0, k, t, 0.05)
+            option = (100.0, k, t, 0.05, 0.0)
             v = 0.2 + abs(k - 100.0) / 400 + t / 50
             s.line(frame(11, k, t, model.price(("C",) + option, v)))
             s.line(frame(12, k, t, model.price(("P",) + option, v + 0.01)))

@@ -3,10 +3,10 @@
 
     python3 vectors.py        writes both beside this file
 
-The answers come from this file's own transcription of document 01's surface section and of document 02's S-2, in Python floats (binary64, each operation rounded once),
-and from nothing of the product. Every word is 16 hexadecimal digits on a line of its own; a float is its bits, a not-a-number 7FF8000000000000.
-src/main.rt says what the words of a call are. After a build come a digest of each of the four buffers, every entry, in use or not (they hold 7 at
-first), then the number (0 for done), and for a surface its lengths, axes, cells with counts where it has under 9 strikes, and readings.
+The answers come from this file's own transcription of document 01's surface section and of document 02's S-2 and S-6 (a record's yield), in Python floats
+(binary64, each operation rounded once), and from nothing of the product. Every word is 16 hexadecimal digits on a line of its own; a float is its bits, a
+not-a-number 7FF8000000000000. src/main.rt says what the words of a call are. After a build come a digest of each of the four buffers, every entry, in use or
+not (they hold 7 at first), then the number (0 for done), and for a surface its lengths, axes, cells with counts where it has under 9 strikes, and readings.
 """
 import math
 import os
@@ -161,11 +161,11 @@ def middle_strike(ka, ta, grid, strikes, expiries, expiry):
     return read(ka, ta, grid, strikes, expiries, strike, expiry)
 
 
-# ---- document 02, S-2
-def broken(spot, rate, kept, refused, heard, evaluations):
+# ---- document 02, S-2 and, for the yield in a record, S-6
+def broken(spot, rate, dividend_yield, kept, refused, heard, evaluations):
     """The record's part of 2."""
     return (kept > 1024 or kept + refused != heard or heard > 60000 or evaluations > 52 * heard
-            or not within(0.000001, 1e9, spot) or not within(-1.0, 1.0, rate))
+            or not within(0.000001, 1e9, spot) or not within(-1.0, 1.0, rate) or not within(-1.0, 1.0, dividend_yield))
 
 
 def nearest(ks, spot):
@@ -278,7 +278,7 @@ def ask_moneys(ks, ts, cells, reads, sizes=None, lengths=(64, 32, 2048)):
     strikes, expiries = sizes or (len(ks), len(ts))
     lent = ask_surface(4, strikes, expiries, ks, ts, cells, len(reads), lengths)
     for record, expiry in reads:
-        ask(*map(bits, record[:2]), *record[2:], bits(expiry))
+        ask(*map(bits, record[:3]), *record[3:], bits(expiry))
     asked_all()
     for record, expiry in reads:
         number, strike, v = at_the_money(record, *lent, expiry)
@@ -405,8 +405,8 @@ def readings():
     ask_reads(3, 2, ks, ts, [(0, math.inf), (1, -math.inf)], [(0, 90.0, 0.5), (0, 95.0, 0.5), (0, 95.0, 0.75)])
 
 
-def record(spot, rate=0.05, kept=3, refused=1, heard=4, evaluations=30):
-    return spot, rate, kept, refused, heard, evaluations
+def record(spot, rate=0.05, dividend_yield=0.02, kept=3, refused=1, heard=4, evaluations=30):
+    return spot, rate, dividend_yield, kept, refused, heard, evaluations
 
 
 def told_apart(ks, ts):
@@ -461,10 +461,12 @@ def refused_moneys():
     bad = [record(0.0), record(NAN), record(math.inf), record(-100.0), record(down(1e-6)), record(up(1e9)), record(100.0, NAN), record(100.0, 1.5),
            record(100.0, down(-1.0)), record(100.0, kept=1025, refused=0, heard=1025), record(100.0, kept=2), record(100.0, refused=2), record(100.0, heard=5),
            record(100.0, kept=0, refused=60001, heard=60001, evaluations=0), record(100.0, evaluations=209), record(100.0, evaluations=MASK),
-           record(100.0, kept=MASK, refused=5, heard=4), record(100.0, kept=5, refused=MASK, heard=4), (0.0, 0.0, 0, 0, 0, 0)]
+           record(100.0, kept=MASK, refused=5, heard=4), record(100.0, kept=5, refused=MASK, heard=4), (0.0, 0.0, 0.0, 0, 0, 0, 0)]
+    bad += [record(100.0, dividend_yield=q) for q in (NAN, math.inf, -math.inf, up(1.0), down(-1.0), 3.0)]
     good_ones = [record(1e-6), record(1e9), record(100.0, -1.0), record(100.0, 1.0), record(100.0, -0.0),
                  record(100.0, kept=0, refused=0, heard=0, evaluations=0),
                  record(100.0, kept=1024, refused=58976, heard=60000, evaluations=3120000), record(100.0, evaluations=208)]
+    good_ones += [record(100.0, dividend_yield=q) for q in (0.0, -0.0, -1.0, 1.0, 5e-324, down(1.0), up(-1.0))]
     for sizes, lengths in (((7, 2), whole), ((65, 2), whole), ((7, 33), whole), ((7, 2), (63, 32, 2048)), ((7, 2), (64, 31, 2048)), ((7, 2), (64, 32, 2047)),
                            ((0, 2), whole), ((7, 0), whole), ((0, 0), whole), ((65, 33), (0, 0, 0)), ((7, 2), (0, 0, 0)), ((64, 2), (3, 32, 2048))):
         ask_moneys(bunched, ts, fine, [(r, t) for r in bad + good_ones[:4] for t in (0.5, NAN)], sizes, lengths)

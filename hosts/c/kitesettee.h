@@ -9,6 +9,11 @@
  * the refusals below, writes 0 in place of each value, and leaves the other memory it was lent as it was. The functions are proved equal,
  * bit for bit, to the definitions in crates/NAME/specs; what each promises stands in crates/host/src/lib.rt.
  *
+ * Compile anew whatever was compiled with a header that knew no dividend yield. kite_bsm_price, kite_bsm_greeks, kite_implied_volatility,
+ * kite_quote_tray and kite_at_the_money take one double more, behind the rate, under the names that they had. A compiler refuses a call that
+ * lacks it; a linker compares names alone, and would let an older object ask about other numbers than it means. A yield of 0.0 gives the prices,
+ * volatilities and surfaces of before, bit for bit.
+ *
  * What a caller owes, since C cannot say it:
  *   - Of a `bool` (one byte), 0 and 1 are the only values. Any other byte is undefined behaviour; in C, `x != 0` makes one.
  *   - A pointer is not null and is aligned, also where its length is 0. Behind it stand as many entries as the length after it says, or as
@@ -37,7 +42,10 @@ extern "C" {
 #define KITE_EXPIRIES 32   /* entries of an expiry axis */
 #define KITE_CELLS 2048    /* entries of a grid and of its counts */
 
-/* The refusals, in checking order: a call stops at the first of its checks that holds. 14 is not in use: no solved volatility is out of range. */
+/*
+ * The refusals, in checking order: a call stops at the first of its checks that holds. 14 is not in use: no solved volatility is out of range; and the
+ * numbers between 21 and 28 are not in use yet.
+ */
 enum kite_refusal {
     KITE_DONE = 0,
     KITE_SHORT_COLUMN = 1,       /* a lent quote column has fewer than 1,024 entries */
@@ -49,6 +57,7 @@ enum kite_refusal {
     KITE_STRIKE = 7,             /* a strike is not in that same range */
     KITE_EXPIRY = 8,             /* an expiry, in years, is not in 0.000001 to 100 */
     KITE_RATE = 9,               /* a rate is not in -1 to 1 */
+    KITE_DIVIDEND_YIELD = 28,    /* a dividend yield is not in -1 to 1 */
     KITE_VOLATILITY = 10,        /* a volatility is not in 0.000001 to 10 */
     KITE_SOLVER_NOT_FINITE = 11, /* a price minus the market price is not finite in the solver; no call here gives it */
     KITE_NOT_BRACKETED = 12,     /* no volatility in 0.000001 to 10 gives the market price: both ends miss it on one side */
@@ -76,6 +85,7 @@ static inline const char *kite_words(uint64_t number)
     case 7: return "the strike is not in 0.000001 to 1,000,000,000";
     case 8: return "the expiry is not in 0.000001 to 100 years";
     case 9: return "the rate is not in -1 to 1";
+    case 28: return "the dividend yield is not in -1 to 1";
     case 10: return "the volatility is not in 0.000001 to 10";
     case 11: return "a price minus the market price is not finite";
     case 12: return "no volatility in 0.000001 to 10 gives the market price";
@@ -109,32 +119,43 @@ double kite_erfc(double x);
 double kite_pdf(double x);
 double kite_cdf(double x);
 
-/* ---- an option: Black and Scholes 1973. Expiry and rate are in years, the volatility is a year's (0.2 for 20 %). */
+/*
+ * ---- an option: Black and Scholes 1973, with a dividend yield (Merton 1973). The expiry is in years; rate, yield and volatility are a year's (0.2 for 20 %).
+ *
+ * The yield is what holding the spot brings, continuously compounded as the rate is: of stored grain its convenience yield, of an index its dividends, of
+ * a currency the foreign rate; 0.0 where there is none. For an option on a futures contract pass the futures price as spot and the rate as the yield
+ * (Black 1976).
+ */
 
 /*
- * Writes the price. Refusals: 6 spot, 7 strike, 8 expiry, 9 rate, 10 volatility; *price is then 0.0.
+ * Writes the price. Refusals: 6 spot, 7 strike, 8 expiry, 9 rate, 28 yield, 10 volatility; *price is then 0.0.
  * Far out of the money, where -d1 of a call or d2 of a put is above about 37.5, the normal distribution is subnormal, a multiple of 2^-1074: the price may
- * come out below 0.0, by some (spot + discounted strike) times 5e-324. Above 38.6 it is 0.0.
+ * come out below 0.0, by some (discounted spot + discounted strike) times 5e-324. Above 38.6 it is 0.0.
  */
-uint64_t kite_bsm_price(bool put, double spot, double strike, double expiry, double rate, double volatility, double *price);
+uint64_t kite_bsm_price(bool put, double spot, double strike, double expiry, double rate, double dividend_yield, double volatility, double *price);
 
-/* Writes delta, gamma, theta, vega, rho, vanna, volga; theta and rho a year. Refusals: 6 to 10, as above; seven times 0.0 then. */
-uint64_t kite_bsm_greeks(bool put, double spot, double strike, double expiry, double rate, double volatility, double greeks[7]);
+/*
+ * Writes delta, gamma, theta, vega, rho, vanna, volga; theta and rho a year. Refusals as above; seven times 0.0 then.
+ * Rho is by the rate alone, the yield held. Where the yield moves with the rate, as for an option on a futures contract, the price moves by minus the
+ * expiry times itself instead.
+ */
+uint64_t kite_bsm_greeks(bool put, double spot, double strike, double expiry, double rate, double dividend_yield, double volatility, double greeks[7]);
 
 /*
  * The volatility that gives a market price, by Brent's method between 0.000001 and 10. Writes to values the volatility, its error (its price
  * minus the market's), the opposing point c and c's error, and to *evaluations how many prices were computed. Volatility and c lie in
  * 0.000001 to 10. The evidence is exact: the error is below 0.000001, or volatility and c lie within 0.00000101 of each other and their
  * prices bracket the market's.
- * Refusals: 5 market price, 6 spot, 7 strike, 8 expiry, 9 rate, with 0 evaluations; 12 and 13 from the solver, with the evaluations made.
+ * Refusals: 5 market price, 6 spot, 7 strike, 8 expiry, 9 rate, 28 yield, with 0 evaluations; 12 and 13 from the solver, with the evaluations made.
  * values is then four times 0.0. (11 is checked too and never holds: the model's prices are finite.)
  */
-uint64_t kite_implied_volatility(bool put, double market, double spot, double strike, double expiry, double rate, double values[4], uint64_t *evaluations);
+uint64_t kite_implied_volatility(bool put, double market, double spot, double strike, double expiry, double rate, double dividend_yield,
+                                 double values[4], uint64_t *evaluations);
 
 /* ---- a whole tray */
 
 /*
- * Opens a fresh book on spot and rate, offers it the list in order, and builds the surface of what was kept: the morning load in one call.
+ * Opens a fresh book on spot, rate and yield, offers it the list in order, and builds the surface of what was kept: the morning load in one call.
  *
  * Offers and answers are rows of fixed length, one row after the other without a gap, so that `bool kinds[n][2]` or n times two bools in
  * one block will do; a slice's length counts its rows. The list is as long as the shortest of these four:
@@ -151,13 +172,13 @@ uint64_t kite_implied_volatility(bool put, double market, double spot, double st
  * Written too: to the columns strikes, expiries and volatilities (at least 1,024 entries each) the accepted quotes in order, nothing past
  * them; to totals kept, refused, heard and evaluations, where kept + refused = heard; the surface and lengths as kite_build does.
  *
- * Returns 0, or one number. The opening's are 6 (spot) and 9 (rate): totals and lengths are then 0, and nothing else is touched. The
+ * Returns 0, or one number. The opening's are 6 (spot), 9 (rate) and 28 (yield): totals and lengths are then 0, and nothing else is touched. The
  * build's are 1, 15, 16 and 17: the offers were heard all the same, numbers, evidence, columns and totals are as above, lengths are 0 and
  * the four surface buffers as they were. (Under 1, a short column, each offer was answered 1 and not counted.)
  *
  * C before C23 does not turn rows into const ones by itself: pass (const bool (*)[2])kinds where kinds is not const, and figures so.
  */
-uint64_t kite_quote_tray(double spot, double rate,
+uint64_t kite_quote_tray(double spot, double rate, double dividend_yield,
                          const bool (*kinds)[2], size_t kinds_len, const double (*figures)[3], size_t figures_len,
                          uint64_t (*numbers)[2], size_t numbers_len, double (*evidence)[4], size_t evidence_len,
                          double *strikes, size_t strikes_len, double *expiries, size_t expiries_len, double *volatilities, size_t volatilities_len,
@@ -200,12 +221,12 @@ uint64_t kite_middle_strike(const double *strike_axis, size_t strike_axis_len, c
 
 /*
  * The same at the strike nearest a book's spot: the one whose difference from it, as a double, has the least magnitude, the lower one on a tie.
- * The book is its record: the spot and the rate that it was opened on, and the totals that kite_quote_tray wrote. Writes to values the strike that was
- * read at, one of the axis also where the spot lies outside, and the volatility there.
+ * The book is its record: the spot, the rate and the yield that it was opened on, and the totals that kite_quote_tray wrote. Writes to values the strike
+ * that was read at, one of the axis also where the spot lies outside, and the volatility there.
  * Refusals: first 2 of the record (kept above 1,024, kept + refused not equal to heard, heard above 60,000, evaluations above 52 times heard,
- * spot or rate out of the ranges of 6 and 9), then 2, 15, 18 and 20, as above; values is then twice 0.0.
+ * spot, rate or yield out of the ranges of 6, 9 and 28), then 2, 15, 18 and 20, as above; values is then twice 0.0.
  */
-uint64_t kite_at_the_money(double spot, double rate, const uint64_t totals[4],
+uint64_t kite_at_the_money(double spot, double rate, double dividend_yield, const uint64_t totals[4],
                            const double *strike_axis, size_t strike_axis_len, const double *expiry_axis, size_t expiry_axis_len,
                            const double *grid, size_t grid_len, uint64_t strikes, uint64_t expiries, double expiry, double values[2]);
 

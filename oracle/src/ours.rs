@@ -22,22 +22,24 @@ pub fn function(function: &str, x: f64) -> f64 {
 /// What stood in a result before the call, so that an unwritten one shows.
 const UNWRITTEN: f64 = 1234.5;
 
-pub fn price(put: bool, v: [f64; 5]) -> (u64, [f64; 1]) {
+/// `v` is the spot, strike, expiry, rate, yield and volatility.
+pub fn price(put: bool, v: [f64; 6]) -> (u64, [f64; 1]) {
     let mut out = [UNWRITTEN];
-    let number = unsafe { kite_bsm_price(put, v[0], v[1], v[2], v[3], v[4], &mut out[0]) };
+    let number = unsafe { kite_bsm_price(put, v[0], v[1], v[2], v[3], v[4], v[5], &mut out[0]) };
     (number, out)
 }
 
-pub fn greeks(put: bool, v: [f64; 5]) -> (u64, [f64; 7]) {
+/// As for `price`.
+pub fn greeks(put: bool, v: [f64; 6]) -> (u64, [f64; 7]) {
     let mut out = [UNWRITTEN; 7];
-    let number = unsafe { kite_bsm_greeks(put, v[0], v[1], v[2], v[3], v[4], &mut out) };
+    let number = unsafe { kite_bsm_greeks(put, v[0], v[1], v[2], v[3], v[4], v[5], &mut out) };
     (number, out)
 }
 
-/// `v` is the market price, spot, strike, expiry and rate.
-pub fn implied(put: bool, v: [f64; 5]) -> (u64, [f64; 4], u64) {
+/// `v` is the market price, spot, strike, expiry, rate and yield.
+pub fn implied(put: bool, v: [f64; 6]) -> (u64, [f64; 4], u64) {
     let (mut out, mut evaluations) = ([UNWRITTEN; 4], 1234);
-    let number = unsafe { kite_implied_volatility(put, v[0], v[1], v[2], v[3], v[4], &mut out, &mut evaluations) };
+    let number = unsafe { kite_implied_volatility(put, v[0], v[1], v[2], v[3], v[4], v[5], &mut out, &mut evaluations) };
     (number, out, evaluations)
 }
 
@@ -131,6 +133,7 @@ pub fn at_the_money(of: &Record, b: &Buffers, expiry: f64) -> (u64, [f64; 2]) {
         kite_at_the_money(
             of.spot,
             of.rate,
+            of.dividend_yield,
             &of.totals,
             s.as_ptr(),
             s.len(),
@@ -184,12 +187,13 @@ impl Tray {
     }
 }
 
-pub fn quote_tray(spot: f64, rate: f64, kinds: &[[bool; 2]], figures: &[[f64; 3]], t: &mut Tray) -> u64 {
+pub fn quote_tray([spot, rate, dividend_yield]: [f64; 3], kinds: &[[bool; 2]], figures: &[[f64; 3]], t: &mut Tray) -> u64 {
     let b = &mut t.buffers;
     unsafe {
         kite_quote_tray(
             spot,
             rate,
+            dividend_yield,
             kinds.as_ptr(),
             kinds.len(),
             figures.as_ptr(),

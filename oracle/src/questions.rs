@@ -1,5 +1,5 @@
 //! The questions that both sides are asked, by kind and family. `Random` makes them, so a seed fixes them all.
-use crate::greeks::{bsm_price, OptionParams, OptionType};
+use crate::carried::{theirs, OptionParams, OptionType};
 use crate::random::{neighbour, Random};
 use crate::reference::Document01;
 
@@ -23,6 +23,7 @@ pub const FAMILIES: [Family; 5] = [Ordinary, Wide, Edge, Branch, Damaged];
 pub const SPOT: (f64, f64) = (0.000001, 1_000_000_000.0);
 pub const EXPIRY: (f64, f64) = (0.000001, 100.0);
 pub const RATE: (f64, f64) = (-1.0, 1.0);
+pub const YIELD: (f64, f64) = (-1.0, 1.0);
 pub const VOLATILITY: (f64, f64) = (0.000001, 10.0);
 
 const SIGNALLING: f64 = f64::from_bits(0x7ff0_0000_0000_0001);
@@ -135,76 +136,137 @@ pub fn argument(r: &mut Random, family: Family, function: &str) -> f64 {
 
 // ---- options
 
-/// A price or greeks: spot, strike, expiry, rate, volatility. An implied volatility: market price, spot, strike, expiry, rate.
+/// A price or greeks: spot, strike, expiry, rate, yield, volatility. An implied volatility: market price, spot, strike, expiry, rate, yield.
 #[derive(Clone, Copy, Debug)]
 pub struct Asked {
     pub put: bool,
-    pub values: [f64; 5],
+    pub values: [f64; 6],
 }
 
-pub const OPTION: [&str; 5] = ["spot", "strike", "expiry", "rate", "volatility"];
-pub const MARKET: [&str; 5] = ["market", "spot", "strike", "expiry", "rate"];
+pub const OPTION: [&str; 6] = ["spot", "strike", "expiry", "rate", "yield", "volatility"];
+pub const MARKET: [&str; 6] = ["market", "spot", "strike", "expiry", "rate", "yield"];
+
+/// The yields that are asked: 0 throughout, which makes the questions those of before S-6, or any.
+#[derive(Clone, Copy, PartialEq, Debug)]
+pub enum Yields {
+    Zero,
+    Any,
+}
+
+impl Yields {
+    /// As a desk enters one; now and then the rate, as of an option on futures, and now and then a zero.
+    fn ordinary(self, r: &mut Random, rate: f64) -> f64 {
+        match self {
+            Yields::Zero => 0.0,
+            Yields::Any => match r.below(16) {
+                0 => 0.0,
+                1 => -0.0,
+                2 | 3 => rate,
+                _ => r.uniform(-0.05, 0.15),
+            },
+        }
+    }
+
+    fn wide(self, r: &mut Random, rate: f64) -> f64 {
+        match self {
+            Yields::Zero => 0.0,
+            Yields::Any => match r.below(16) {
+                0 => -0.0,
+                1 | 2 => rate,
+                _ => wide_rate(r),
+            },
+        }
+    }
+
+    /// Of a book, by family.
+    fn opening(self, r: &mut Random, family: Family, rate: f64) -> f64 {
+        match (self, family) {
+            (Yields::Any, Edge) => edge(r, YIELD),
+            (Yields::Any, Damaged) if r.once_in(10) => r.pick(&DAMAGES),
+            (_, Wide) => self.wide(r, rate),
+            _ => self.ordinary(r, rate),
+        }
+    }
+
+    /// The places of an option's values, or of a solve's, that are moved to an end or damaged.
+    fn places(self, values: [&str; 6]) -> Vec<usize> {
+        (0..6).filter(|i| self == Yields::Any || values[*i] != "yield").collect()
+    }
+}
 
 pub fn kind(put: bool) -> OptionType {
     if put { OptionType::Put } else { OptionType::Call }
 }
 
-/// The Rust's price, not-a-number where it refuses.
+/// The Rust's price, by `bsm_call` or `bsm_put`.
 pub fn price(asked: &Asked) -> f64 {
-    let [spot, strike, time_to_expiry, risk_free_rate, volatility] = asked.values;
-    let p = OptionParams { spot, strike, time_to_expiry, risk_free_rate, volatility, option_type: kind(asked.put) };
-    bsm_price(&p).unwrap_or(f64::NAN)
+    let [spot, strike, time_to_expiry, risk_free_rate, dividend_yield, volatility] = asked.values;
+    theirs(&OptionParams { spot, strike, time_to_expiry, risk_free_rate, dividend_yield, volatility, option_type: kind(asked.put) })
 }
 
-fn ordinary(r: &mut Random) -> Asked {
+/// What a market pays: that price, and not-a-number where the Rust's own guards refuse the option, as in the questions of before S-6.
+fn worth(asked: &Asked) -> f64 {
+    let [spot, strike, expiry, _, _, volatility] = asked.values;
+    if [spot, strike, expiry, volatility].iter().any(|x| *x <= 0.0) { f64::NAN } else { price(asked) }
+}
+
+fn ordinary(r: &mut Random, yields: Yields) -> Asked {
     let spot = if r.flip() { 100.0 } else { r.uniform(1.0, 1000.0) };
     let strike = spot * r.uniform(0.5, 1.6);
     let strike = if r.flip() { strike.round().max(1.0) } else { strike };
     let expiry = if r.flip() { (1 + r.below(520)) as f64 / 52.0 } else { r.uniform(0.003, 5.0) };
     let rate = if r.once_in(8) { 0.0 } else { r.uniform(-0.03, 0.12) };
+    let dividend_yield = yields.ordinary(r, rate);
     let volatility = r.uniform(0.03, 1.5);
-    Asked { put: r.flip(), values: [spot, strike, expiry, rate, volatility] }
+    Asked { put: r.flip(), values: [spot, strike, expiry, rate, dividend_yield, volatility] }
 }
 
-fn wide(r: &mut Random) -> Asked {
+fn wide(r: &mut Random, yields: Yields) -> Asked {
     let spot = r.magnitude(SPOT.0, SPOT.1);
     // Half of the strikes near the spot, since far ones price to nothing.
     let strike = if r.flip() { r.magnitude(SPOT.0, SPOT.1) } else { spot * r.magnitude(0.05, 20.0) };
     let rate = wide_rate(r);
-    Asked { put: r.flip(), values: [spot, strike, r.magnitude(EXPIRY.0, EXPIRY.1), rate, r.magnitude(VOLATILITY.0, VOLATILITY.1)] }
+    let dividend_yield = yields.wide(r, rate);
+    Asked { put: r.flip(), values: [spot, strike, r.magnitude(EXPIRY.0, EXPIRY.1), rate, dividend_yield, r.magnitude(VOLATILITY.0, VOLATILITY.1)] }
 }
 
-fn any(r: &mut Random) -> Asked {
-    if r.flip() { ordinary(r) } else { wide(r) }
+fn any(r: &mut Random, yields: Yields) -> Asked {
+    if r.flip() { ordinary(r, yields) } else { wide(r, yields) }
 }
 
-fn at_edges(r: &mut Random) -> Asked {
-    let mut a = any(r);
-    let ranges = [SPOT, SPOT, EXPIRY, RATE, VOLATILITY];
+fn at_edges(r: &mut Random, yields: Yields) -> Asked {
+    const NEXT_TO_NOTHING: [f64; 5] = [0.0, -0.0, SUBNORMAL, -SUBNORMAL, 1e-300];
+    let mut a = any(r, yields);
+    let ranges = [SPOT, SPOT, EXPIRY, RATE, YIELD, VOLATILITY];
+    let places = yields.places(OPTION);
     let all = r.flip();
-    let one = r.index(5);
-    for (i, range) in ranges.into_iter().enumerate() {
+    let one = r.pick(&places);
+    for i in places {
         if i == one || (all && r.flip()) {
-            a.values[i] = edge(r, range);
+            a.values[i] = edge(r, ranges[i]);
         }
     }
     if r.once_in(8) {
-        a.values[3] = r.pick(&[0.0, -0.0, SUBNORMAL, -SUBNORMAL, 1e-300]);
+        a.values[3] = r.pick(&NEXT_TO_NOTHING);
+    }
+    if yields == Yields::Any && r.once_in(8) {
+        a.values[4] = r.pick(&NEXT_TO_NOTHING);
     }
     a
 }
 
 /// A strike at which d1 or d2 stands where `cdf` or exp takes another branch, or spot over strike where ln does.
-fn at_branches(r: &mut Random) -> Asked {
-    let mut a = any(r);
-    let [spot, _, t, rate, v] = a.values;
+fn at_branches(r: &mut Random, yields: Yields) -> Asked {
+    let mut a = any(r, yields);
+    let [spot, _, t, rate, dividend_yield, v] = a.values;
+    let carry = rate - dividend_yield;
     let spread = v * t.sqrt();
     // From 37.6 to 38.6 exp is subnormal.
     let far = r.uniform(37.5, 38.7);
     let target = r.pick(&[0.0, 2.8284271247461903, -2.8284271247461903, 37.62977544445355, -37.62977544445355, 8.0, -8.0, far, -far]);
     let strike = match r.below(4) {
-        0 => spot * (rate + 0.5 * v * v).mul_add(t, -target * spread).exp_01(),
-        1 => spot * (rate - 0.5 * v * v).mul_add(t, -target * spread).exp_01(),
+        0 => spot * (carry + 0.5 * v * v).mul_add(t, -target * spread).exp_01(),
+        1 => spot * (carry - 0.5 * v * v).mul_add(t, -target * spread).exp_01(),
         2 => spot / (1.4142135623730951 * 2f64.powi(r.below(41) as i32 - 20)),
         _ => spot * 2f64.powi(r.below(41) as i32 - 20),
     };
@@ -213,10 +275,10 @@ fn at_branches(r: &mut Random) -> Asked {
 }
 
 /// Damage in one position, each in turn, or in several.
-fn damaged(r: &mut Random, mut a: Asked) -> Asked {
-    let one = r.index(5);
+fn damaged(r: &mut Random, mut a: Asked, places: Vec<usize>) -> Asked {
+    let one = r.pick(&places);
     let several = r.once_in(4);
-    for i in 0..5 {
+    for i in places {
         if i == one || (several && r.flip()) {
             a.values[i] = r.pick(&DAMAGES);
         }
@@ -224,79 +286,80 @@ fn damaged(r: &mut Random, mut a: Asked) -> Asked {
     a
 }
 
-pub fn option(r: &mut Random, family: Family) -> Asked {
+pub fn option(r: &mut Random, family: Family, yields: Yields) -> Asked {
     match family {
-        Ordinary => ordinary(r),
-        Wide => wide(r),
-        Edge => at_edges(r),
-        Branch => at_branches(r),
+        Ordinary => ordinary(r, yields),
+        Wide => wide(r, yields),
+        Edge => at_edges(r, yields),
+        Branch => at_branches(r, yields),
         Damaged => {
-            let a = any(r);
-            damaged(r, a)
+            let a = any(r, yields);
+            damaged(r, a, yields.places(OPTION))
         }
     }
 }
 
 fn with_market(a: Asked, market: f64) -> Asked {
-    let [spot, strike, expiry, rate, _] = a.values;
-    Asked { put: a.put, values: [market, spot, strike, expiry, rate] }
+    let [spot, strike, expiry, rate, dividend_yield, _] = a.values;
+    Asked { put: a.put, values: [market, spot, strike, expiry, rate, dividend_yield] }
 }
 
 fn at_volatility(a: Asked, volatility: f64) -> f64 {
     let mut at = a;
-    at.values[4] = volatility;
-    price(&at)
+    at.values[5] = volatility;
+    worth(&at)
 }
 
 /// Market prices beside what decides: the prices at the two ends, the tolerance beside them, what the option is worth at once, the least and the largest.
 fn deciding(r: &mut Random, a: Asked) -> f64 {
-    let [spot, strike, expiry, rate, _] = a.values;
-    let intrinsic = (spot - strike * (-rate * expiry).exp_01()) * if a.put { -1.0 } else { 1.0 };
+    let [spot, strike, expiry, rate, dividend_yield, _] = a.values;
+    let (held, owed) = (spot * (-dividend_yield * expiry).exp_01(), strike * (-rate * expiry).exp_01());
+    let intrinsic = (held - owed) * if a.put { -1.0 } else { 1.0 };
     let market = match r.below(8) {
         0 => at_volatility(a, VOLATILITY.0),
         1 => at_volatility(a, VOLATILITY.1),
         2 => at_volatility(a, VOLATILITY.0) + 0.000001,
         3 => at_volatility(a, VOLATILITY.1) - 0.000001,
         4 => intrinsic,
-        5 => if a.put { strike * (-rate * expiry).exp_01() } else { spot },
+        5 => if a.put { owed } else { held },
         6 => r.pick(&[SUBNORMAL, f64::MIN_POSITIVE, 1e-300, 1e-12, 0.000001, 1e300, f64::MAX]),
         _ => at_volatility(a, neighbour(r.pick(&[VOLATILITY.0, VOLATILITY.1]), r.below(5) as i64 - 2)),
     };
     neighbour(market, r.below(9) as i64 - 4)
 }
 
-pub fn implied(r: &mut Random, family: Family) -> Asked {
+pub fn implied(r: &mut Random, family: Family, yields: Yields) -> Asked {
     match family {
         Ordinary => {
-            let a = ordinary(r);
-            let market = price(&a);
+            let a = ordinary(r, yields);
+            let market = worth(&a);
             // Half as a desk sees it: to the cent.
             with_market(a, if r.flip() { market } else { (market * 100.0).round() / 100.0 })
         }
         Wide => {
-            let a = wide(r);
+            let a = wide(r, yields);
             let market = match r.below(4) {
                 0 => r.magnitude(1e-12, 1e12),
-                1 => price(&a) * r.uniform(0.9, 1.1),
-                _ => price(&a),
+                1 => worth(&a) * r.uniform(0.9, 1.1),
+                _ => worth(&a),
             };
             with_market(a, market)
         }
         Edge => {
-            let a = at_edges(r);
-            let market = if r.flip() { price(&a) } else { deciding(r, a) };
+            let a = at_edges(r, yields);
+            let market = if r.flip() { worth(&a) } else { deciding(r, a) };
             with_market(a, market)
         }
         Branch => {
-            let a = if r.flip() { at_branches(r) } else { any(r) };
-            let market = if r.flip() { price(&a) } else { deciding(r, a) };
+            let a = if r.flip() { at_branches(r, yields) } else { any(r, yields) };
+            let market = if r.flip() { worth(&a) } else { deciding(r, a) };
             with_market(a, market)
         }
         Damaged => {
-            let a = any(r);
-            let market = price(&a);
+            let a = any(r, yields);
+            let market = worth(&a);
             let a = with_market(a, if market > 0.0 { market } else { 1.0 });
-            damaged(r, a)
+            damaged(r, a, yields.places(MARKET))
         }
     }
 }
@@ -557,6 +620,7 @@ pub fn made(r: &mut Random, family: Family) -> Made {
 pub struct Record {
     pub spot: f64,
     pub rate: f64,
+    pub dividend_yield: f64,
     /// Kept, refused, heard, evaluations.
     pub totals: [u64; 4],
 }
@@ -610,17 +674,22 @@ pub fn record(r: &mut Random, family: Family, strikes: &[f64]) -> Record {
         Wide => wide_rate(r),
         _ => r.uniform(-0.02, 0.1),
     };
+    let dividend_yield = match family {
+        Edge if r.once_in(4) => edge(r, YIELD),
+        Wide => Yields::Any.wide(r, rate),
+        _ => Yields::Any.ordinary(r, rate),
+    };
     let kept = if r.once_in(4) { r.pick(&[0, 1, 1023, 1024]) } else { r.below(1025) };
     let refused = if r.once_in(4) { r.pick(&[0, 1, 60_000 - kept]) } else { r.below(60_001 - kept) };
     let heard = kept + refused;
     let evaluations = if r.once_in(4) { 52 * heard } else { r.below(52 * heard + 1) };
-    let record = Record { spot, rate, totals: [kept, refused, heard, evaluations] };
+    let record = Record { spot, rate, dividend_yield, totals: [kept, refused, heard, evaluations] };
     if family == Damaged && r.flip() { broken(r, record) } else { record }
 }
 
 fn broken(r: &mut Random, mut record: Record) -> Record {
     let [kept, refused, heard, evaluations] = record.totals;
-    match r.below(7) {
+    match r.below(8) {
         0 => {
             let kept = r.pick(&[1025, 1026, 1 << 32, u64::MAX]);
             record.totals = [kept, refused, kept.wrapping_add(refused), evaluations];
@@ -637,7 +706,8 @@ fn broken(r: &mut Random, mut record: Record) -> Record {
             record.totals = [kept + 1, heard.wrapping_sub(kept + 1), heard, 0];
         }
         5 => record.spot = if r.flip() { r.pick(&DAMAGES) } else { edge(r, SPOT) },
-        _ => record.rate = if r.flip() { r.pick(&DAMAGES) } else { edge(r, RATE) },
+        6 => record.rate = if r.flip() { r.pick(&DAMAGES) } else { edge(r, RATE) },
+        _ => record.dividend_yield = if r.flip() { r.pick(&DAMAGES) } else { edge(r, YIELD) },
     }
     record
 }
@@ -679,6 +749,7 @@ pub fn gaps(r: &mut Random, family: Family) -> Vec<Vec<f64>> {
 pub struct Offers {
     pub spot: f64,
     pub rate: f64,
+    pub dividend_yield: f64,
     /// Of each offer: whether it is a price, and of a put.
     pub kinds: Vec<[bool; 2]>,
     /// Of each offer: strike, expiry, value.
@@ -698,8 +769,8 @@ impl Offers {
     }
 }
 
-/// A morning's list: prices of calls and puts on a ladder, some volatilities, some that must be refused.
-pub fn offers(r: &mut Random, family: Family) -> Offers {
+/// The spot, the rate and the yield of a book.
+fn opening(r: &mut Random, family: Family, yields: Yields) -> [f64; 3] {
     let spot = match family {
         Edge => edge(r, SPOT),
         Wide => r.magnitude(SPOT.0, SPOT.1),
@@ -712,6 +783,12 @@ pub fn offers(r: &mut Random, family: Family) -> Offers {
         Damaged if r.once_in(10) => r.pick(&DAMAGES),
         _ => r.uniform(-0.02, 0.1),
     };
+    [spot, rate, yields.opening(r, family, rate)]
+}
+
+/// A morning's list: prices of calls and puts on a ladder, some volatilities, some that must be refused.
+pub fn offers(r: &mut Random, family: Family, yields: Yields) -> Offers {
+    let [spot, rate, dividend_yield] = opening(r, family, yields);
     let strikes = if r.once_in(10) { 60 + r.index(9) } else { 1 + r.index(40) };
     let expiries = if r.once_in(10) { 29 + r.index(7) } else { 1 + r.index(20) };
     let ts = ladder(r, if family == Wide { Wide } else { Ordinary }, EXPIRY, expiries, true);
@@ -725,12 +802,12 @@ pub fn offers(r: &mut Random, family: Family) -> Offers {
         1 => 0,
         _ => r.index(200),
     };
-    let mut out = Offers { spot, rate, ..Offers::default() };
+    let mut out = Offers { spot, rate, dividend_yield, ..Offers::default() };
     for _ in 0..count {
         let (strike, expiry) = (r.pick(&ks), r.pick(&ts));
         let (is_price, put) = (!r.once_in(5), r.flip());
         let v = r.uniform(0.05, 1.2);
-        let value = if is_price { price(&Asked { put, values: [spot, strike, expiry, rate, v] }) } else { v };
+        let value = if is_price { worth(&Asked { put, values: [spot, strike, expiry, rate, dividend_yield, v] }) } else { v };
         let (mut k, mut t, mut x) = (strike, expiry, value);
         if family == Damaged && r.once_in(5) {
             match r.below(3) {

@@ -58,7 +58,7 @@ class Command(Runs):
         self.assertEqual(run.returncode, 0)
         bits = lambda *xs: ''.join(' ' + struct.pack('>d', x).hex().upper() for x in xs)
         self.assertEqual(log.read_text().splitlines(), [
-            'open  ' + bits(100.0, -0.1), 'vol   ' + bits(100 + 2.0 ** -40, 0.1, 0.07),
+            'open  ' + bits(100.0, -0.1, 0.0), 'vol   ' + bits(100 + 2.0 ** -40, 0.1, 0.07),
             'put   ' + bits(100 + 2.0 ** -39) + ' 7FF8000000000000' + bits(1e-320), 'build ',
             'money ' + bits(0.1), 'money  7FF8000000000000'])
 

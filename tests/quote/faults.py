@@ -78,7 +78,7 @@ class Damage(unittest.TestCase):
                 ('spot,100\nrate,0.05\n', 'there is no header'),
                 ('call,100,0.5,25\n', "line 1: found 'call'; before the header"),
                 ('Morning tray\nkind,strike,expiry,value\ncall,1,1,1\n', "line 1: found 'Morning tray'; before the header"),
-                ('spot,100,yield,0.02\nkind,strike,expiry,value\ncall,1,1,1\n', "line 1: found 'yield'; before the header"),
+                ('spot,100,carry,0.02\nkind,strike,expiry,value\ncall,1,1,1\n', "line 1: found 'carry'; before the header"),
                 (',100\nkind,strike,expiry,value\ncall,1,1,1\n', "line 1: found '100'; before the header"),
                 ('spot,abc\nkind,strike,expiry,value\ncall,1,1,1\n', "line 1, spot: 'abc' is not a number"),
                 ('spot,10%\nkind,strike,expiry,value\ncall,1,1,1\n', "line 1, spot: '10%' is not a number"),
@@ -154,6 +154,7 @@ class Damage(unittest.TestCase):
         self.assertEqual(tray.option('spot', ' 450.25 ').value, 450.25)
         self.assertEqual(tray.option('rate', '5%').value, 0.05)
         self.assertEqual(tray.option('rate', '-1e-3').value, -0.001)
-        for name, text in (('spot', ''), ('spot', 'abc'), ('spot', '5%'), ('rate', '0,05'), ('rate', 'nan'), ('rate', '%')):
+        self.assertEqual(tray.option('yield', '-0.5 %').value, -0.005)
+        for name, text in (('spot', ''), ('spot', 'abc'), ('spot', '5%'), ('rate', '0,05'), ('rate', 'nan'), ('rate', '%'), ('yield', ''), ('futures', '5%')):
             with self.assertRaises(InputError):
                 tray.option(name, text)

@@ -13,6 +13,7 @@ from pathlib import Path
 from quoting import command, tray
 from quoting.blotter import Evidence
 from quoting.faults import InputError
+from quoting.opening import Opening
 from quoting.quoted import Row
 from quoting.tray import Quote
 
@@ -37,6 +38,11 @@ def row(kind='call', strike=100.0, expiry=0.5, value=25.0, line=2, number=0, vol
     """A row as the program answered it."""
     answer = Evidence(number, 5, 0.0 if number else volatility, 0.0, 0.0, 0.0)
     return Row(Quote(line, kind, strike, expiry, value), answer, ends, silent, None, None)
+
+
+def opened(spot=100.0, rate=0.0, dividend_yield=0.0, name='spot'):
+    """What a book was opened with."""
+    return Opening(name, spot, rate, dividend_yield)
 
 
 def messages(data):

@@ -9,7 +9,7 @@ from quoting import records, tables
 from quoting.quoted import Money, Quoted
 from quoting.surface import Cell, Surface
 
-from quote.harness import GOOD, HAIR, Runs, bits, header
+from quote.harness import GOOD, HAIR, Runs, bits, header, opened
 
 HEADING = 'At the money: volatility at the strike nearest the spot, '
 
@@ -89,7 +89,7 @@ class Lines(unittest.TestCase):
 
     def lines(self, strikes, expiries, *money):
         cells = [[Cell(0.25, 1)] * len(strikes)] * len(expiries)
-        lines = tables.at_the_money(Quoted('', None, 100.0, 0.0, [], Surface(0, strikes, expiries, cells), list(money), []))
+        lines = tables.at_the_money(Quoted('', None, opened(), [], Surface(0, strikes, expiries, cells), list(money), []))
         self.assertEqual(lines[:2], [HEADING + '100', ''])
         return lines[3:]
 

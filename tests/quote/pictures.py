@@ -8,6 +8,8 @@ from quoting import drawing, picture, smiles
 from quoting.heat_map import HEAT, Map
 from quoting.surface import Cell, Surface
 
+from quote.harness import opened
+
 SVG = '{http://www.w3.org/2000/svg}'
 
 
@@ -21,9 +23,9 @@ def many(strikes, expiries, **more):
 
 
 class Pictures(unittest.TestCase):
-    def drawn(self, surface, name='a.csv: 1 quote', counts='1 accepted, 0 refused', spot=100.0):
+    def drawn(self, surface, name='a.csv: 1 quote', counts='1 accepted, 0 refused', spot=100.0, given='spot'):
         """The picture; every part of it is on a sheet and nothing comes from outside."""
-        words = picture.svg(surface, spot, name, counts)
+        words = picture.svg(surface, opened(spot, name=given), name, counts)
         root = ElementTree.fromstring(words.encode())
         for word in ('http://', 'https://', 'url(', 'href'):
             for place in words.split(word)[1:]:
@@ -100,8 +102,8 @@ class Shapes(Pictures):
         self.assertEqual([t for t in self.texts(words) if 'Smile' in t or 'by expiry' in t], [])
 
     def test_no_surface_no_picture(self):
-        self.assertIsNone(picture.svg(Surface(0, [], [], []), 100.0, 'a.csv: 1 quote', '0 accepted'))
-        self.assertIsNone(picture.svg(Surface(16, [], [], []), 100.0, 'a.csv: 1 quote', '0 accepted'))
+        self.assertIsNone(picture.svg(Surface(0, [], [], []), opened(), 'a.csv: 1 quote', '0 accepted'))
+        self.assertIsNone(picture.svg(Surface(16, [], [], []), opened(), 'a.csv: 1 quote', '0 accepted'))
 
 
 class Words(Pictures):
@@ -157,6 +159,9 @@ class Words(Pictures):
         self.assertIn('spot 90.5', self.texts(self.drawn(many(2, 2), spot=90.5)))
         self.assertIn('The spot, 9, is below the strikes', self.texts(self.drawn(many(2, 2), spot=9.0)))
         self.assertIn('The spot, 900, is above the strikes', self.texts(self.drawn(many(2, 2), spot=900.0)))
+        self.assertIn('futures price 90.5', self.texts(self.drawn(many(2, 2), spot=90.5, given='futures')))
+        self.assertIn('The futures price, 9, is below the strikes', self.texts(self.drawn(many(2, 2), spot=9.0, given='futures')))
+        self.drawn(many(2, 2, count=lambda i, j: 1), spot=90.9999999999999, given='futures')
 
     def test_words_for_those_who_do_not_see_it(self):
         root = ElementTree.fromstring(self.drawn(many(3, 2), 'a.csv: 6 quotes').encode())

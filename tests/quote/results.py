@@ -12,6 +12,9 @@ from quote.harness import GOOD, HAIR, Runs, bits, header
 
 ROWS = ('call,100,0.5,25', 'call,%s,0.5,29' % HAIR, 'vol,110,0.1,0.30000000000000004', 'put,90,1e999,7', 'call,90,0.5,', 'put,90,0.5,4000')
 TRAY = b'spot,100.1,rate,-0.01\n' + header(*ROWS)
+# The columns of before there was a yield.
+EARLIER = ('tray,spot,rate,record,line,kind,strike,expiry,value,number,words,volatility,error,c,c_error,evaluations,says_nothing,count,warnings,low_price,'
+           'high_price,model_price,delta,gamma,theta_year,theta_day,vega,vega_point,rho,vanna,volga')
 
 
 class Files(Runs):
@@ -105,6 +108,9 @@ class Files(Runs):
         (self.folder / 'out.csv').touch()
         for _ in range(2):
             self.assertEqual(self.run_quote(GOOD, '--csv', 'out.csv').returncode, 0)
+        (self.folder / 'out.csv').write_text(EARLIER + '\na.csv,100.0,0.0,quote\n')
+        self.assertEqual(self.run_quote(GOOD, '--csv', 'out.csv').returncode, 0)
+        self.assertEqual((self.folder / 'out.csv').read_text().splitlines()[0], EARLIER + ',futures,yield')
         self.fails(2, "--json tray.csv: give a name that ends in .json", GOOD, '--json', 'tray.csv')
         self.fails(2, "--csv '': give a name that ends in .csv", GOOD, '--csv', '')
         self.fails(2, '--json nowhere/out.json: cannot be written: No such file', GOOD, '--json', 'nowhere/out.json')

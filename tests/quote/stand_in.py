@@ -6,7 +6,7 @@ import struct
 import sys
 
 LOWEST, HIGHEST = 0.000001, 10.0
-WORDS = {'open': 2, 'call': 3, 'put': 3, 'vol': 3, 'build': 0, 'total': 0, 'read': 2, 'money': 1, 'price': 6, 'greeks': 6, 'ends': 4}
+WORDS = {'open': 3, 'call': 3, 'put': 3, 'vol': 3, 'build': 0, 'total': 0, 'read': 2, 'money': 1, 'price': 7, 'greeks': 7, 'ends': 4}
 
 
 def mode():
@@ -42,8 +42,9 @@ class Book:
     def __init__(self):
         self.spot, self.kept, self.strikes, self.expiries, self.cells = None, [], [], [], []
 
-    def open(self, name, spot, rate):
-        number = 6 if not spot > 0 else 9 if not -1 <= rate <= 1 else 0
+    def open(self, name, spot, rate, dividend_yield):
+        checks = (6, spot > 0), (9, -1 <= rate <= 1), (28, -1 <= dividend_yield <= 1 and mode() != 'no yield')
+        number = next((number for number, holds in checks if not holds), 0)
         self.spot, self.kept = None if number else spot, []
         return said(name, number)
 
@@ -98,7 +99,7 @@ class Book:
         volatility = option[-1]
         return said(name, 0, price_at(volatility)) if LOWEST <= volatility <= HIGHEST else said(name, 10, 0.0)
 
-    def greeks(self, name, spot, strike, expiry, rate, volatility):
+    def greeks(self, name, spot, strike, expiry, rate, dividend_yield, volatility):
         return said(name, 10 if mode() == 'refuses later' else 0, 0.5, 0.01, -36.5, 100.0, 1 / 3, volatility, -2.0)
 
     def ends(self, name, *option):

@@ -52,6 +52,7 @@ fn hear_all(
 pub fn quote_tray(
     spot: f64,
     rate: f64,
+    dividend_yield: f64,
     kinds: &[[bool; 2]],
     figures: &[[f64; 3]],
     numbers: &mut [[u64; 2]],
@@ -64,7 +65,7 @@ pub fn quote_tray(
     grid: &mut [f64],
     counts: &mut [u64],
 ) -> Tray
-    ensures { QuotesTray (record { spot = spot; rate = rate })
+    ensures { QuotesTray (record { spot = spot; rate = rate; dividend_yield = dividend_yield })
         (heard_offers kinds.now figures.now (answers numbers.old evidence.old))
         (lent (answers numbers.old evidence.old)
         (columns_of strikes.old expiries.old volatilities.old)
@@ -74,7 +75,7 @@ pub fn quote_tray(
         (columns_of strikes.new expiries.new volatilities.new)
         (buffers_of strike_axis.new expiry_axis.new grid.new counts.new)) }
 {
-    let opened = book::open(spot, rate);
+    let opened = book::open(spot, rate, dividend_yield);
     match opened {
         Opened::Refused { number, book } => Tray::Refused { number, book },
         Opened::Fresh { book } => {

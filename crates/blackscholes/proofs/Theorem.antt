@@ -7,7 +7,7 @@ use lib.Dec.{eqb}
 use lib.Ieee.{Float}
 use Rattle.floats.specs.Operators.{decimal, if◌then◌else◌}
 use Rattle.floats.proofs.Tests.{split}
-use Rattle.limits.specs.Ranges.{is_price, is_spot, is_strike, is_expiry, is_rate, is_volatility}
+use Rattle.limits.specs.Ranges.{is_price, is_spot, is_strike, is_expiry, is_rate, is_yield, is_volatility}
 use Rattle.limits.specs.Checks.{first, none}
 use Rattle.limits.specs.Outcome.{refused, answered}
 use Rattle.limits.proofs.Checks.{first_holds, first_passes}
@@ -22,7 +22,7 @@ use Rattle.blackscholes.specs.Model.{at_volatility, price}
 use Rattle.blackscholes.specs.Greeks.{greeks}
 use Rattle.blackscholes.specs.Checks.{option_refusal, refusal, outcome_of_price, pricing, no_greeks, outcome_of_greeks, sensitivities}
 use Rattle.blackscholes.specs.Implied.{implied_refusal, outcome_of_implied, implied}
-use Rattle.blackscholes.specs.Claim.{OfOption, by_6, by_7, by_8, by_9, InRange, OfModel, OfImplied}
+use Rattle.blackscholes.specs.Claim.{OfOption, by_6, by_7, by_8, by_9, by_28, InRange, OfModel, OfImplied}
 use Rattle.blackscholes.specs.Claim.{Blank, PriceAnswer, GreeksAnswer, ImpliedAnswer, Claim}
 use Rattle.blackscholes.specs.declared.OptionParams.{OptionParams}
 use Rattle.blackscholes.specs.declared.Priced.{Priced}
@@ -51,9 +51,14 @@ module _ (p : OptionParams) (rest : ℕ) where
   unfolding option_refusal first
   at_9 a b c d = simp (a, b, c, d)
 
+  at_28 : is_spot p.spot ≡ true → is_strike p.strike ≡ true → is_expiry p.time_to_expiry ≡ true → is_rate p.risk_free_rate ≡ true
+      → is_yield p.dividend_yield ≡ false → option_refusal p rest ≡ 28
+  unfolding option_refusal first
+  at_28 a b c d e = simp (a, b, c, d, e)
+
   at_rest : InRange p → option_refusal p rest ≡ rest
   unfolding option_refusal first
-  at_rest i = simp (i.spot, i.strike, i.expiry, i.rate)
+  at_rest i = simp (i.spot, i.strike, i.expiry, i.rate, i.yield)
 
   by_option : (X : ℕ → Type 0) → ((n : ℕ) → OfOption p n → X n) → (InRange p → X rest) → X (option_refusal p rest)
   by_option X refuses passes =
@@ -61,7 +66,9 @@ module _ (p : OptionParams) (rest : ℕ) where
       (λ a. split (is_strike p.strike)
       (λ b. split (is_expiry p.time_to_expiry)
       (λ c. split (is_rate p.risk_free_rate)
-      (λ d. let i : InRange p = record { spot = a; strike = b; expiry = c; rate = d } in subst X (sym (at_rest i)) (passes i))
+      (λ d. split (is_yield p.dividend_yield)
+      (λ e. let i : InRange p = record { spot = a; strike = b; expiry = c; rate = d; yield = e } in subst X (sym (at_rest i)) (passes i))
+      (λ e. subst X (sym (at_28 a b c d e)) (refuses 28 (by_28 a b c d e))))
       (λ d. subst X (sym (at_9 a b c d)) (refuses 9 (by_9 a b c d))))
       (λ c. subst X (sym (at_8 a b c)) (refuses 8 (by_8 a b c))))
       (λ b. subst X (sym (at_7 a b)) (refuses 7 (by_7 a b))))
@@ -90,6 +97,7 @@ option_some (by_6 f) = refl
 option_some (by_7 a f) = refl
 option_some (by_8 a b f) = refl
 option_some (by_9 a b c f) = refl
+option_some (by_28 a b c d f) = refl
 
 model_some : {p : OptionParams} {n : ℕ} → OfModel p n → eqb n none ≡ false
 model_some (OfModel.by_option m) = option_some m

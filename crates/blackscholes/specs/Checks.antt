@@ -1,7 +1,7 @@
 -- What price and greeks refuse, and what they answer in document 01's terms.
 use Rattle.std.specs.Prelude.{ℕ, not, Float}
 use Rattle.floats.specs.Operators.{decimal}
-use Rattle.limits.specs.Ranges.{is_spot, is_strike, is_expiry, is_rate, is_volatility}
+use Rattle.limits.specs.Ranges.{is_spot, is_strike, is_expiry, is_rate, is_yield, is_volatility}
 use Rattle.limits.specs.Checks.{first, none}
 use Rattle.limits.specs.Outcome.{Outcome, done, refused, answered}
 use Rattle.blackscholes.specs.Model.{price}
@@ -13,16 +13,17 @@ use Rattle.blackscholes.specs.declared.Priced.TheVariants as Priced
 use Rattle.blackscholes.specs.declared.Sensitivities.{Sensitivities}
 use Rattle.blackscholes.specs.declared.Sensitivities.TheVariants as Sensitivities
 
--- 6 to 9: spot, strike, expiry and rate, then what follows.
+-- 6 to 9: spot, strike, expiry and rate; 28, "checked after 9": the yield; then what follows.
 unfoldable pub option_refusal : OptionParams → ℕ → ℕ
 option_refusal p rest =
     first (not (is_spot p.spot)) 6
     (first (not (is_strike p.strike)) 7
     (first (not (is_expiry p.time_to_expiry)) 8
     (first (not (is_rate p.risk_free_rate)) 9
-    rest)))
+    (first (not (is_yield p.dividend_yield)) 28
+    rest))))
 
--- Price and greeks check 6 to 10.
+-- Price and greeks check 6 to 9, 28 and 10.
 unfoldable pub refusal : OptionParams → ℕ
 refusal p = option_refusal p (first (not (is_volatility p.volatility)) 10 none)
 

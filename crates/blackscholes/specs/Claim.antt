@@ -1,7 +1,8 @@
--- What document 01 says of the calls: when each of 5 to 10 is given, that a refusal's values are 0.0, and that nothing of an answer is lost in its reading.
+-- What document 01 says of the calls: when each of 5 to 10 and 28 is given, that a refusal's values are 0.0, and that nothing of an answer is lost in its
+-- reading.
 use Rattle.std.specs.Prelude.{ℕ, ◌≡◌, true, false, Float}
 use Rattle.floats.specs.Operators.{decimal}
-use Rattle.limits.specs.Ranges.{is_price, is_spot, is_strike, is_expiry, is_rate, is_volatility}
+use Rattle.limits.specs.Ranges.{is_price, is_spot, is_strike, is_expiry, is_rate, is_yield, is_volatility}
 use Rattle.limits.specs.Outcome.{Outcome, done, refused}
 use Rattle.brent.specs.declared.Solution.{Solution}
 use Rattle.brent.specs.declared.Solver.{Solver}
@@ -25,12 +26,15 @@ pub data OfOption (p : OptionParams) : ℕ → Type 0 where
   by_7 : is_spot p.spot ≡ true → is_strike p.strike ≡ false → OfOption p 7
   by_8 : is_spot p.spot ≡ true → is_strike p.strike ≡ true → is_expiry p.time_to_expiry ≡ false → OfOption p 8
   by_9 : is_spot p.spot ≡ true → is_strike p.strike ≡ true → is_expiry p.time_to_expiry ≡ true → is_rate p.risk_free_rate ≡ false → OfOption p 9
+  by_28 : is_spot p.spot ≡ true → is_strike p.strike ≡ true → is_expiry p.time_to_expiry ≡ true → is_rate p.risk_free_rate ≡ true
+      → is_yield p.dividend_yield ≡ false → OfOption p 28
 
 pub record InRange (p : OptionParams) : Type 0 where
   pub spot : is_spot p.spot ≡ true
   pub strike : is_strike p.strike ≡ true
   pub expiry : is_expiry p.time_to_expiry ≡ true
   pub rate : is_rate p.risk_free_rate ≡ true
+  pub yield : is_yield p.dividend_yield ≡ true
 
 -- Of a price or greeks: 10 too.
 pub data OfModel (p : OptionParams) : ℕ → Type 0 where

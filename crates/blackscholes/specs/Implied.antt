@@ -1,4 +1,4 @@
--- Implied volatility: document 01, "`implied_volatility` checks 5 to 9, then solves." Its solver is Brent's, over the model's prices.
+-- Implied volatility: document 01, "`implied_volatility` checks 5 to 9, then solves", and 28 after 9. Its solver is Brent's, over the model's prices.
 use Rattle.std.specs.Prelude.{ℕ, ◌≡◌, not, eqb, Float}
 use Rattle.floats.specs.Operators.{if◌then◌else◌}
 use Rattle.limits.specs.Ranges.{is_price}
@@ -14,7 +14,7 @@ use Rattle.blackscholes.specs.declared.OptionParams.{OptionParams}
 use Rattle.blackscholes.specs.declared.Implied.{Implied}
 use Rattle.blackscholes.specs.declared.Implied.TheVariants.{Found, Refused}
 
--- 5, then 6 to 9.
+-- 5, then 6 to 9 and 28.
 unfoldable pub implied_refusal : Float → OptionParams → ℕ
 implied_refusal market p = first (not (is_price market)) 5 (option_refusal p none)
 

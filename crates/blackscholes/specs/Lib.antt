@@ -3,3 +3,5 @@ pub mod Greeks
 pub mod Checks
 pub mod Implied
 pub mod Claim
+pub mod Earlier
+pub mod Laws

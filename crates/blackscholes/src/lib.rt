@@ -1,5 +1,5 @@
-// The model on paper: the price and the seven greeks of Black and Scholes, implied volatility, what is refused (specs/), and what document 01 says of the
-// answers. Crate `greeks` has the functions.
+// The model on paper: the price and the seven greeks of Black, Scholes and Merton, implied volatility, what is refused (specs/), and what document 01 says of
+// the answers. Crate `greeks` has the functions.
 use brent::Solution;
 
 #[derive(Drop)]
@@ -14,6 +14,7 @@ pub struct OptionParams {
     pub strike: f64,
     pub time_to_expiry: f64,
     pub risk_free_rate: f64,
+    pub dividend_yield: f64,
     pub volatility: f64,
     pub option_type: OptionType,
 }

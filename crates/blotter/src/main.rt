@@ -75,18 +75,18 @@ fn say(ok: bool, name: &[u8; 6], words: &[u64]) -> bool {
 
 // ---- a line's request
 
-// How many words a line of so many bytes has; 7 where it has no such length.
+// How many words a line of so many bytes has; 8 where it has no such length.
 fn width(seen: usize) -> usize
-    ensures { result ≤ 7 }
+    ensures { result ≤ 8 }
 {
     if seen < 6 {
-        return 7;
+        return 8;
     }
-    if seen > 108 {
-        return 7;
+    if seen > 125 {
+        return 8;
     }
     if (seen - 6) % 17 != 0 {
-        return 7;
+        return 8;
     }
     (seen - 6) / 17
 }
@@ -99,17 +99,17 @@ fn stands(place: usize, b: u8) -> bool {
     frames::is_digit(b)
 }
 
-fn name_of(line: &[u8; 109]) -> [u8; 6] {
+fn name_of(line: &[u8; 126]) -> [u8; 6] {
     [line[0], line[1], line[2], line[3], line[4], line[5]]
 }
 
 // What a line of so many bytes asks. The 16 digits of a word push out what its space put in.
-fn line_request(line: &[u8; 109], seen: usize) -> Request {
+fn line_request(line: &[u8; 126], seen: usize) -> Request {
     let n = width(seen);
-    if n > 6 {
+    if n > 7 {
         return Request::Bad;
     }
-    let mut x = [0u64; 6];
+    let mut x = [0u64; 7];
     let mut good = true;
     let mut i = 0;
     while i < 17 * n {
@@ -147,8 +147,8 @@ fn opened(ok: bool, number: u64, book: Book) -> State {
     }
 }
 
-fn open(ok: bool, spot: f64, rate: f64) -> State {
-    let answer = book::open(spot, rate);
+fn open(ok: bool, spot: f64, rate: f64, dividend_yield: f64) -> State {
+    let answer = book::open(spot, rate, dividend_yield);
     match answer {
         Opened::Fresh { book } => opened(ok, 0, book),
         Opened::Refused { number, book } => opened(ok, number, book),
@@ -157,18 +157,19 @@ fn open(ok: bool, spot: f64, rate: f64) -> State {
 
 // A book that is not open: 0.0 is no spot.
 fn closed() -> State {
-    let mut s = open(false, 0.0, 0.0);
+    let mut s = open(false, 0.0, 0.0, 0.0);
     s.ok = true;
     s
 }
 
-// An option on the book's spot and rate.
+// An option on the book's spot, rate and yield.
 fn on_book(b: Book, kind: OptionType, strike: f64, expiry: f64) -> OptionParams {
     OptionParams {
         spot: b.spot,
         strike,
         time_to_expiry: expiry,
         risk_free_rate: b.rate,
+        dividend_yield: b.dividend_yield,
         volatility: 0.0,
         option_type: kind,
     }
@@ -207,8 +208,12 @@ fn say_alone(ok: bool, request: Request, b: Book) -> bool {
 fn answer(s: State, request: Request) -> State {
     let mut t = s;
     match request {
-        Request::Open { spot, rate } => {
-            t = open(s.ok, spot, rate);
+        Request::Open {
+            spot,
+            rate,
+            dividend_yield,
+        } => {
+            t = open(s.ok, spot, rate, dividend_yield);
         }
         _ => {
             t.ok = say_alone(s.ok, request, s.book);
@@ -221,7 +226,7 @@ fn answer(s: State, request: Request) -> State {
 fn quote(
     s: State,
     request: Request,
-    line: &[u8; 109],
+    line: &[u8; 126],
     strikes: &mut [f64; 1024],
     expiries: &mut [f64; 1024],
     volatilities: &mut [f64; 1024],
@@ -422,12 +427,12 @@ fn fetch(r: Reader, input: &mut [u8; 65536]) -> Reader {
     t
 }
 
-// A byte more of a line. Its line feed is not held, nor the 110th byte and later ones, since the line is too long already.
-fn push(seen: usize, b: u8, line: &mut [u8; 109]) -> usize {
+// A byte more of a line. Its line feed is not held, nor the 127th byte and later ones, since the line is too long already.
+fn push(seen: usize, b: u8, line: &mut [u8; 126]) -> usize {
     if b == b'\n' {
         return seen;
     }
-    if seen > 108 {
+    if seen > 125 {
         return seen;
     }
     line[seen] = b;
@@ -435,7 +440,7 @@ fn push(seen: usize, b: u8, line: &mut [u8; 109]) -> usize {
 }
 
 // Takes what was read, up to the end of a line.
-fn take(r: Reader, input: &[u8; 65536], line: &mut [u8; 109]) -> Reader {
+fn take(r: Reader, input: &[u8; 65536], line: &mut [u8; 126]) -> Reader {
     let n = io::count(r.got, input);
     let mut at = r.at;
     let mut seen = r.seen;
@@ -457,7 +462,7 @@ fn take(r: Reader, input: &[u8; 65536], line: &mut [u8; 109]) -> Reader {
 // Nothing says that an input ends, so the loop counts its turns down, from a number that no run uses up.
 fn main() {
     let mut input = [0u8; 65536];
-    let mut line = [0u8; 109];
+    let mut line = [0u8; 126];
     let mut strikes = [0.0f64; 1024];
     let mut expiries = [0.0f64; 1024];
     let mut volatilities = [0.0f64; 1024];

@@ -12,12 +12,13 @@ use limits::first;
 
 // ---- the opening
 
-fn fresh(spot: f64, rate: f64) -> Book
-    ensures { result ≡ fresh (record { spot = spot; rate = rate }) }
+fn fresh(spot: f64, rate: f64, dividend_yield: f64) -> Book
+    ensures { result ≡ fresh (record { spot = spot; rate = rate; dividend_yield = dividend_yield }) }
 {
     Book {
         spot,
         rate,
+        dividend_yield,
         kept: 0,
         refused: 0,
         heard: 0,
@@ -25,29 +26,33 @@ fn fresh(spot: f64, rate: f64) -> Book
     }
 }
 
-fn open_number(spot: f64, rate: f64) -> u64
-    ensures { result ≡ open_refusal (record { spot = spot; rate = rate }) }
+fn open_number(spot: f64, rate: f64, dividend_yield: f64) -> u64
+    ensures { result ≡ open_refusal (record { spot = spot; rate = rate; dividend_yield = dividend_yield }) }
 {
     first(
         !limits::is_spot(spot),
         6,
-        first(!limits::is_rate(rate), 9, 0),
+        first(
+            !limits::is_rate(rate),
+            9,
+            first(!limits::is_yield(dividend_yield), 28, 0),
+        ),
     )
 }
 
-// Checks 6 and 9. A refused opening returns a record of zeros.
-pub fn open(spot: f64, rate: f64) -> Opened
-    ensures { outcome_of_opening result ≡ opened (record { spot = spot; rate = rate }) }
+// Checks 6, 9 and 28. A refused opening returns a record of zeros.
+pub fn open(spot: f64, rate: f64, dividend_yield: f64) -> Opened
+    ensures { outcome_of_opening result ≡ opened (record { spot = spot; rate = rate; dividend_yield = dividend_yield }) }
 {
-    let number = open_number(spot, rate);
+    let number = open_number(spot, rate, dividend_yield);
     if number != 0 {
         return Opened::Refused {
             number,
-            book: fresh(0.0, 0.0),
+            book: fresh(0.0, 0.0, 0.0),
         };
     }
     Opened::Fresh {
-        book: fresh(spot, rate),
+        book: fresh(spot, rate, dividend_yield),
     }
 }
 

@@ -1,4 +1,4 @@
--- No offer to the book is answered by 11: a record that passes 2 holds a spot and a rate in range. Assumes nothing.
+-- No offer to the book is answered by 11: a record that passes 2 holds a spot, a rate and a yield in range. Assumes nothing.
 use mathlib.Core.Path.{◌≡◌, refl, sym, ap, ◌∙◌, subst}
 use Prim.Native.Nat.{ℕ}
 use native.Mathlib.Omega.{arith}
@@ -8,11 +8,11 @@ use lib.Dec.{leb, eqb}
 use borrow.Author.Tests.{eqb-true, not-false}
 use Rattle.floats.specs.Operators.{decimal, if◌then◌else◌}
 use Rattle.floats.proofs.Tests.{by}
-use Rattle.limits.specs.Ranges.{is_price, is_spot, is_strike, is_expiry, is_rate}
+use Rattle.limits.specs.Ranges.{is_price, is_strike, is_expiry}
 use Rattle.limits.specs.Checks.{none}
 use Rattle.limits.specs.Outcome.{Outcome, refused}
 use Rattle.limits.proofs.Checks.{Rows, passes, elsewhere}
-use Rattle.ledger.proofs.Sound.{bounds_of}
+use Rattle.ledger.proofs.Sound.{Bounds, bounds_of}
 use Rattle.ledger.proofs.Settled.{own}
 use Rattle.brent.specs.declared.Solution.{Solution}
 use Rattle.brent.specs.Outcome.{ended, zeros}
@@ -38,7 +38,7 @@ checks_not_11 short b o h = omega (arith, elsewhere 11 (own o) none refl (elsewh
 
 -- what the checks let through: a record, a strike and an expiry in range, and terms that pass 5
 record Passed (b : Book) (o : Offer) : Type 0 where
-  opening : (is_spot b.spot ≡ true) × (is_rate b.rate ≡ true)
+  within : Bounds b
   strike : is_strike o.strike ≡ true
   expiry : is_expiry o.expiry ≡ true
   price : bad_price o.terms ≡ false
@@ -49,7 +49,7 @@ passed short b o h =
     let e = passes (entry short b) (own_refusal o) refl h in
     let p = (passes (own o) none refl e.1).0 in
     record {
-      opening = let s = bounds_of b e.0.1.0 in (s.spot, s.rate);
+      within = bounds_of b e.0.1.0;
       strike = not-false _ p.1.0;
       expiry = not-false _ p.1.1.0;
       price = p.0;
@@ -71,10 +71,12 @@ answer_not_11 b o h (Price kind market) t f {x} e =
       strike = o.strike;
       time_to_expiry = o.expiry;
       risk_free_rate = b.rate;
+      dividend_yield = b.dividend_yield;
       volatility = decimal 0 1;
       option_type = kind;
     }) market f
-    (record { spot = h.opening.0; strike = h.strike; expiry = h.expiry; rate = h.opening.1; left = refl }) m
+    (let r = h.within in
+    record { spot = r.spot; strike = h.strike; expiry = h.expiry; rate = r.rate; yield = r.yield; left = refl }) m
     (d.1 ∙ ap (λ (y : Outcome Solution). ended y over) z)
 
 pub offer_never_11 : (short : Bool) (b : Book) (o : Offer) → Held o.terms → {x : Solution} → offer_outcome bsm short b o ≡ refused 11 x → ⊥

@@ -14,12 +14,13 @@ use Rattle.floats.specs.Operators.{decimal, ◌⊕◌, ◌⊖◌, ◌⊗◌, ◌
 use Rattle.floats.proofs.Tests.{or_le, or_ge}
 use Rattle.floats.proofs.Bounds.{Bounded, AtLeast, power_short, bounded_more, round_bound, bounded_mul, bounded_add, bounded_sub, bounded_neg}
 use Rattle.floats.proofs.Bounds.{bounded_div, least_round, least_mul, least_div, negative_div, positive_of, positive_clear, upto_of_most, most_le, least_le}
-use Rattle.limits.specs.Ranges.{is_spot, is_strike, is_expiry, is_rate, is_volatility}
+use Rattle.limits.specs.Ranges.{is_spot, is_strike, is_expiry, is_rate, is_yield, is_volatility}
 use Rattle.limits.proofs.Ranges.{at_least, at_most, spot_positive, expiry_positive, volatility_positive}
 use Rattle.root.specs.Root.{sqrt}
 use Rattle.elementary.specs.Ln.{ln}
 use Rattle.gauss.specs.Normal.{cdf}
-use Rattle.blackscholes.specs.Model.{of_kind, discount, spread, d1, d2, price}
+use Rattle.elementary.specs.Exp.{exp}
+use Rattle.blackscholes.specs.Model.{of_kind, discount, spot_discount, carry, spread, d1, d2, price}
 use Rattle.blackscholes.specs.declared.OptionType.{OptionType}
 use Rattle.blackscholes.specs.declared.OptionType.TheVariants.{Call, Put}
 use Rattle.blackscholes.specs.declared.OptionParams.{OptionParams}
@@ -86,7 +87,7 @@ volatility_ranged v h =
       least = least_le (2 ^ 1054) v low p low_positive (at_least low (decimal 10 1) v h) low_least;
     }
 
--- a rate may be below 0
+-- a rate, and so a yield, may be below 0
 one_is : fin false 1 (pos 0) ≡ decimal 1 1
 one_is = unfold round in refl
 
@@ -105,6 +106,12 @@ rate_bound r h =
     go (fin false m e) l u = unfold le in unfold lt in unfold eq in scaled (m * up e) (down e) (2 ^ 1074) (or_le (m * up e * 1) (1 * 1 * down e) true u)
     go (fin true m e) l u =
         unfold neg in unfold le in unfold lt in unfold eq in scaled (m * up e) (down e) (2 ^ 1074) (or_ge (1 * 1 * down e) (m * up e * 1) true l)
+
+-- ---- exp(-r t), and exp(-q t) with a yield for the rate
+discounted : (r t : Float) → Bounded 1074 r → Bounded 1081 t → Bounded 1332 (exp (neg r ⊗ t))
+discounted r t hr ht =
+    let b = bounded_mul 1074 1081 1081 (neg r) t (lit< tt) (lit≤ tt) (bounded_neg 1074 r hr) ht in
+    exp_bound 128 1081 (neg r ⊗ t) (mul-fits binary64 (neg r) t) (lit≤ tt) (lit≤ tt) (upto_of_most (128 * 2 ^ 1074) (neg r ⊗ t) b) b
 
 -- ---- ln(s / k)
 quotient_bound : (s k : Float) → Ranged 1104 s → Ranged 1104 k → Bounded 1124 (s ⊘ k)
@@ -126,7 +133,7 @@ of_kind_lem k Call call put c p = c
 of_kind_lem k Put call put c p = p
 
 module _ (p : OptionParams) (hs : is_spot p.spot ≡ true) (hk : is_strike p.strike ≡ true) (ht : is_expiry p.time_to_expiry ≡ true)
-    (hr : is_rate p.risk_free_rate ≡ true) (hv : is_volatility p.volatility ≡ true) where
+    (hr : is_rate p.risk_free_rate ≡ true) (hq : is_yield p.dividend_yield ≡ true) (hv : is_volatility p.volatility ≡ true) where
   s : Ranged 1104 p.spot
   s = spot_ranged p.spot hs
 
@@ -138,6 +145,9 @@ module _ (p : OptionParams) (hs : is_spot p.spot ≡ true) (hk : is_strike p.str
 
   r : Bounded 1074 p.risk_free_rate
   r = rate_bound p.risk_free_rate hr
+
+  q : Bounded 1074 p.dividend_yield
+  q = rate_bound p.dividend_yield hq
 
   w : Ranged 1078 p.volatility
   w = volatility_ranged p.volatility hv
@@ -155,17 +165,21 @@ module _ (p : OptionParams) (hs : is_spot p.spot ≡ true) (hk : is_strike p.str
       least_mul 1054 1063 1043 (2 ^ 1078) (2 ^ 1079) p.volatility (sqrt p.time_to_expiry) (lit< tt) (lit≤ tt) w.most root_bound w.least
       (sqrt_least p.time_to_expiry t.above t.least t.most)
 
-  -- (r + 0.5 v v) t
+  carry_bound : Bounded 1075 (carry p)
+  unfolding carry
+  carry_bound = bounded_sub 1074 1074 1074 p.risk_free_rate p.dividend_yield (lit< tt) (lit≤ tt) (lit≤ tt) r q
+
+  -- (r - q + 0.5 v v) t
   abbrev square : Float
   square = decimal 1 2 ⊗ p.volatility ⊗ p.volatility
 
   abbrev drift : Float
-  drift = (p.risk_free_rate ⊕ square) ⊗ p.time_to_expiry
+  drift = (carry p ⊕ square) ⊗ p.time_to_expiry
 
   drift_bound : Bounded 1090 drift
   drift_bound =
-      bounded_mul 1083 1081 1090 (p.risk_free_rate ⊕ square) p.time_to_expiry (lit< tt) (lit≤ tt)
-      (bounded_add 1074 1082 1082 p.risk_free_rate square (lit< tt) (lit≤ tt) (lit≤ tt) r
+      bounded_mul 1083 1081 1090 (carry p ⊕ square) p.time_to_expiry (lit< tt) (lit≤ tt)
+      (bounded_add 1075 1082 1082 (carry p) square (lit< tt) (lit≤ tt) (lit≤ tt) carry_bound
       (bounded_mul 1078 1078 1082 (decimal 1 2 ⊗ p.volatility) p.volatility (lit< tt) (lit≤ tt)
       (bounded_mul 1074 1078 1078 (decimal 1 2) p.volatility (lit< tt) (lit≤ tt) half_bound w.most) w.most))
       t.most
@@ -183,30 +197,33 @@ module _ (p : OptionParams) (hs : is_spot p.spot ≡ true) (hk : is_strike p.str
 
   discount_bound : Bounded 1332 (discount p)
   unfolding discount
-  discount_bound =
-      let x = neg p.risk_free_rate ⊗ p.time_to_expiry in
-      let b = bounded_mul 1074 1081 1081 (neg p.risk_free_rate) p.time_to_expiry (lit< tt) (lit≤ tt)
-      (bounded_neg 1074 p.risk_free_rate r) t.most in
-      exp_bound 128 1081 x (mul-fits binary64 (neg p.risk_free_rate) p.time_to_expiry) (lit≤ tt) (lit≤ tt) (upto_of_most (128 * 2 ^ 1074) x b) b
+  discount_bound = discounted p.risk_free_rate p.time_to_expiry r t.most
 
-  -- the two parts of a price, whatever arguments of at most 2^88 the distribution is at
-  spot_part : (x : Float) → Bounded 1162 x → Bounded 1231 (p.spot ⊗ cdf x)
-  spot_part x b = bounded_mul 1104 1201 1231 p.spot (cdf x) (lit< tt) (lit≤ tt) s.most (cdf_bound x (bounded_more 1162 1200 x (lit≤ tt) b))
+  spot_discount_bound : Bounded 1332 (spot_discount p)
+  unfolding spot_discount
+  spot_discount_bound = discounted p.dividend_yield p.time_to_expiry q t.most
+
+  -- a part of a price: spot or strike, discounted, times the distribution at an argument of at most 2^88
+  part : (y d x : Float) → Bounded 1104 y → Bounded 1332 d → Bounded 1162 x → Bounded 1489 (y ⊗ d ⊗ cdf x)
+  part y d x hy hd b =
+      bounded_mul 1362 1201 1489 (y ⊗ d) (cdf x) (lit< tt) (lit≤ tt)
+      (bounded_mul 1104 1332 1362 y d (lit< tt) (lit≤ tt) hy hd)
+      (cdf_bound x (bounded_more 1162 1200 x (lit≤ tt) b))
+
+  spot_part : (x : Float) → Bounded 1162 x → Bounded 1489 (p.spot ⊗ spot_discount p ⊗ cdf x)
+  spot_part x b = part p.spot (spot_discount p) x s.most spot_discount_bound b
 
   strike_part : (x : Float) → Bounded 1162 x → Bounded 1489 (p.strike ⊗ discount p ⊗ cdf x)
-  strike_part x b =
-      bounded_mul 1362 1201 1489 (p.strike ⊗ discount p) (cdf x) (lit< tt) (lit≤ tt)
-      (bounded_mul 1104 1332 1362 p.strike (discount p) (lit< tt) (lit≤ tt) k.most discount_bound)
-      (cdf_bound x (bounded_more 1162 1200 x (lit≤ tt) b))
+  strike_part x b = part p.strike (discount p) x k.most discount_bound b
 
   pub price_bound : Bounded 1490 (price p)
   unfolding price
   price_bound =
       let b = bounded_more 1161 1162 (d1 p) (lit≤ tt) d1_bound in
-      of_kind_lem 1490 p.option_type (p.spot ⊗ cdf (d1 p) ⊖ p.strike ⊗ discount p ⊗ cdf (d2 p))
-      (p.strike ⊗ discount p ⊗ cdf (neg (d2 p)) ⊖ p.spot ⊗ cdf (neg (d1 p)))
-      (bounded_sub 1231 1489 1489 (p.spot ⊗ cdf (d1 p)) (p.strike ⊗ discount p ⊗ cdf (d2 p)) (lit< tt) (lit≤ tt) (lit≤ tt)
+      of_kind_lem 1490 p.option_type (p.spot ⊗ spot_discount p ⊗ cdf (d1 p) ⊖ p.strike ⊗ discount p ⊗ cdf (d2 p))
+      (p.strike ⊗ discount p ⊗ cdf (neg (d2 p)) ⊖ p.spot ⊗ spot_discount p ⊗ cdf (neg (d1 p)))
+      (bounded_sub 1489 1489 1489 (p.spot ⊗ spot_discount p ⊗ cdf (d1 p)) (p.strike ⊗ discount p ⊗ cdf (d2 p)) (lit< tt) (lit≤ tt) (lit≤ tt)
       (spot_part (d1 p) b) (strike_part (d2 p) d2_bound))
-      (bounded_sub 1489 1231 1489 (p.strike ⊗ discount p ⊗ cdf (neg (d2 p))) (p.spot ⊗ cdf (neg (d1 p))) (lit< tt) (lit≤ tt) (lit≤ tt)
+      (bounded_sub 1489 1489 1489 (p.strike ⊗ discount p ⊗ cdf (neg (d2 p))) (p.spot ⊗ spot_discount p ⊗ cdf (neg (d1 p))) (lit< tt) (lit≤ tt) (lit≤ tt)
       (strike_part (neg (d2 p)) (bounded_neg 1162 (d2 p) d2_bound))
       (spot_part (neg (d1 p)) (bounded_neg 1162 (d1 p) b)))

@@ -12,7 +12,7 @@ use Rattle.floats.specs.Values.{finite}
 use Rattle.floats.proofs.Tests.{by, clash, and_left}
 use Rattle.floats.proofs.Short.{most_finite}
 use Rattle.floats.proofs.Bounds.{Bounded, bounded_more, difference_finite}
-use Rattle.limits.specs.Ranges.{is_price, is_spot, is_strike, is_expiry, is_rate, is_volatility}
+use Rattle.limits.specs.Ranges.{is_price, is_spot, is_strike, is_expiry, is_rate, is_yield, is_volatility}
 use Rattle.limits.specs.Checks.{first, none}
 use Rattle.limits.proofs.Checks.{Rows, passes, elsewhere}
 use Rattle.limits.specs.Outcome.{Outcome, done, refused, answered}
@@ -34,12 +34,14 @@ pub record Checked (p : OptionParams) (rest : ℕ) : Type 0 where
   pub strike : is_strike p.strike ≡ true
   pub expiry : is_expiry p.time_to_expiry ≡ true
   pub rate : is_rate p.risk_free_rate ≡ true
+  pub yield : is_yield p.dividend_yield ≡ true
   pub left : rest ≡ none
 
--- 6 to 9
+-- 6 to 9, and 28
 abbrev own : OptionParams → Rows
 own p =
-    (not (is_spot p.spot), 6) ∷ (not (is_strike p.strike), 7) ∷ (not (is_expiry p.time_to_expiry), 8) ∷ (not (is_rate p.risk_free_rate), 9) ∷ []
+    (not (is_spot p.spot), 6) ∷ (not (is_strike p.strike), 7) ∷ (not (is_expiry p.time_to_expiry), 8)
+    ∷ (not (is_rate p.risk_free_rate), 9) ∷ (not (is_yield p.dividend_yield), 28) ∷ []
 
 checked : (p : OptionParams) (rest : ℕ) → option_refusal p rest ≡ none → Checked p rest
 unfolding option_refusal
@@ -50,6 +52,7 @@ checked p rest h =
       strike = not-false _ q.0.1.0;
       expiry = not-false _ q.0.1.1.0;
       rate = not-false _ q.0.1.1.1.0;
+      yield = not-false _ q.0.1.1.1.1.0;
       left = q.1;
     }
 
@@ -62,7 +65,7 @@ pub price_at_most : (p : OptionParams) → refusal p ≡ none → Bounded 1490 (
 unfolding refusal
 price_at_most p h =
     let c = checked p (first (not (is_volatility p.volatility)) 10 none) h in
-    price_bound p c.spot c.strike c.expiry c.rate
+    price_bound p c.spot c.strike c.expiry c.rate c.yield
     (not-false _ (passes ((not (is_volatility p.volatility), 10) ∷ []) none refl c.left).0.0)
 
 pub error_finite : (x market : Float) → Bounded 1490 x → T (fits binary64 market) → is_price market ≡ true → finite (x ⊖ market) ≡ true
@@ -97,7 +100,7 @@ module _ (p : OptionParams) (market : Float) (f : T (fits binary64 market)) wher
       let v = n.point.at in
       clash
       (ap (λ (x : Float). finite (x ⊖ market)) (m.priced n.among) ∙ error_finite (model v) market
-      (price_bound (at_volatility p v) c.spot c.strike c.expiry c.rate (m.ran.tried_in_range n.among)) f h)
+      (price_bound (at_volatility p v) c.spot c.strike c.expiry c.rate c.yield (m.ran.tried_in_range n.among)) f h)
       n.not_finite
 
   no_run : implied_refusal market p ≡ none → {x : Solution} {s : Solver} → (run_with market model).reply ≡ ended (refused 11 x) s → ⊥

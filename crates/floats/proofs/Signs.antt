@@ -70,7 +70,7 @@ other_magnitude (fin true m e) h k = absurd (go (m * up e * 1) (0 * down e) (ltb
     go a b p q = absurd (true≢false (sym (both a b (omega arith) (omega arith)) ∙ q))
 
 -- ---- finite: x - x is 0.0
-zero_of_value : (x : Float) (s : Bool) (c : ℕ) → 0 < c → HasValue x s 0 c → eq x O ≡ true
+pub zero_of_value : (x : Float) (s : Bool) (c : ℕ) → 0 < c → HasValue x s 0 c → eq x O ≡ true
 unfolding eq round
 zero_of_value nan s c C h = absurd h
 zero_of_value (inf t) s c C h = absurd h
@@ -83,7 +83,7 @@ zero_of_value (fin t m e) s c C h = go (m * up e) (is_zero (m * up e) c C (h.1 �
     go : (a : ℕ) → a ≡ 0 → (eqb (a * 1) (0 * down e) && (beq t false || eqb (a * 1) 0)) ≡ true
     go a p = simp (eq-eqb (a * 1) (0 * down e) (mul-one a ∙ p ∙ sym (zero-mul (down e))), eq-eqb (a * 1) 0 (mul-one a ∙ p)) (or-true (beq t false))
 
-round_zero : (s : Bool) (n c : ℕ) → 0 < c → n ≡ 0 → eq (round binary64 s n c) O ≡ true
+pub round_zero : (s : Bool) (n c : ℕ) → 0 < c → n ≡ 0 → eq (round binary64 s n c) O ≡ true
 round_zero s n c C z =
     zero_of_value (round binary64 s n c) s c C (zero_rounds s n c C z)
 

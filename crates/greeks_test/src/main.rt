@@ -33,8 +33,8 @@ fn digit(b: u8) -> u64 {
 }
 
 // The 16 hexadecimal digits of a line from an index on.
-fn number(line: &[u8; 135], from: usize) -> u64
-    requires { from + 16 ≤ 135 }
+fn number(line: &[u8; 152], from: usize) -> u64
+    requires { from + 16 ≤ 152 }
 {
     let mut n: u64 = 0;
     let mut i: usize = 0;
@@ -92,13 +92,14 @@ fn kind_of(letter: u8) -> OptionType {
 }
 
 // The option of a line. For an implied volatility the last input is the market price: the volatility is not looked at there.
-fn params(line: &[u8; 135], kind: OptionType) -> OptionParams {
+fn params(line: &[u8; 152], kind: OptionType) -> OptionParams {
     OptionParams {
         spot: float_of(number(line, 10)),
         strike: float_of(number(line, 27)),
         time_to_expiry: float_of(number(line, 44)),
         risk_free_rate: float_of(number(line, 61)),
-        volatility: float_of(number(line, 78)),
+        dividend_yield: float_of(number(line, 78)),
+        volatility: float_of(number(line, 95)),
         option_type: kind,
     }
 }
@@ -127,7 +128,7 @@ fn price(p: OptionParams) -> Got {
 }
 
 // Call less put.
-fn parity(line: &[u8; 135]) -> Got {
+fn parity(line: &[u8; 152]) -> Got {
     let call = price(params(line, OptionType::Call));
     let put = price(params(line, OptionType::Put));
     Got {
@@ -196,7 +197,7 @@ fn is_solve(a: u8) -> bool {
 }
 
 // The call by the first and the third letter of the operation.
-fn answer(line: &[u8; 135]) -> Got {
+fn answer(line: &[u8; 152]) -> Got {
     let a = line[0];
     let b = line[2];
     if a == b'p' && b == b'r' {
@@ -230,10 +231,10 @@ fn counted(n: u64, tens: u8, units: u8) -> bool {
     n / 10 == digit(tens) && n % 10 == digit(units)
 }
 
-fn expected(line: &[u8; 135], got: Got) -> bool {
-    counted(got.number, line[95], line[96])
-        && counted(got.evaluations, line[98], line[99])
-        && agrees(line[8], got.value, number(line, 101), number(line, 118))
+fn expected(line: &[u8; 152], got: Got) -> bool {
+    counted(got.number, line[112], line[113])
+        && counted(got.evaluations, line[115], line[116])
+        && agrees(line[8], got.value, number(line, 118), number(line, 135))
 }
 
 // ---- what is written
@@ -243,7 +244,7 @@ fn print_count(n: u64) {
     io::print_decimal(STDOUT_FILENO, n);
 }
 
-fn print_inputs(line: &[u8; 135]) {
+fn print_inputs(line: &[u8; 152]) {
     io::write_all(
         STDOUT_FILENO,
         &[
@@ -255,10 +256,11 @@ fn print_inputs(line: &[u8; 135]) {
     print_bits(number(line, 44));
     print_bits(number(line, 61));
     print_bits(number(line, 78));
+    print_bits(number(line, 95));
 }
 
 // Answers whether the call agrees with the line, and writes its answer out.
-fn judge(line: &[u8; 135]) -> bool {
+fn judge(line: &[u8; 152]) -> bool {
     let got = answer(line);
     print_inputs(line);
     print_count(got.number);
@@ -274,7 +276,7 @@ fn judge(line: &[u8; 135]) -> bool {
 }
 
 // The name that the end of a kind bears.
-fn print_kind(line: &[u8; 135]) {
+fn print_kind(line: &[u8; 152]) {
     io::write_all(
         STDOUT_FILENO,
         &[
@@ -286,9 +288,9 @@ fn print_kind(line: &[u8; 135]) {
 
 // One line of the input: 0 at its end, 1 at the end of a kind, 2 for a record that agrees, 3 for one that does not, 4 for a comment.
 fn turn() -> u8 {
-    let mut line = [0u8; 135];
+    let mut line = [0u8; 152];
     let n = io::read_full(0, &mut line);
-    if n < 135 {
+    if n < 152 {
         return 0;
     }
     if line[0] == b'#' {

@@ -6,7 +6,7 @@ ghost use Rattle.grid.specs.Readings.{read_outcome};
 ghost use Rattle.ledger.specs.Book.{Columns, columns_of};
 ghost use Rattle.ledger.specs.Claim.{Ledger};
 ghost use Rattle.ledger.specs.Model.{priced};
-ghost use Rattle.protocol.specs.Hear.{ledger, said, opens, reads, asked_by, answers, heard_of};
+ghost use Rattle.protocol.specs.Hear.{ledger, said, opening_at, opens, reads, asked_by, answers, heard_of};
 
 use blackscholes::{Implied, OptionType};
 use chart::Built;
@@ -15,10 +15,11 @@ use hex::Frame;
 use ledger::{Book, Heard, Offer, Opened, Terms};
 use protocol::{Asked, Said};
 
+// A 10 line sets the yield to 0.
 fn open_book(spot: f64, rate: f64) -> Said
-    ensures { (l : Ledger) → heard_of result l.columns ≡ opens l (record { spot = spot; rate = rate }) }
+    ensures { (l : Ledger) → heard_of result l.columns ≡ opens l (opening_at spot rate) }
 {
-    let opened = book::open(spot, rate);
+    let opened = book::open(spot, rate, 0.0);
     match opened {
         Opened::Fresh { book } => Said {
             book,

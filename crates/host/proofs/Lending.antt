@@ -8,7 +8,7 @@ use lib.Dec.{eqb}
 use lib.Ieee.{Float}
 use borrow.Author.Tests.{ne_eqb, eqb-true}
 use Rattle.floats.specs.Operators.{if◌then◌else◌}
-use Rattle.limits.specs.Ranges.{is_spot, is_rate}
+use Rattle.limits.specs.Ranges.{is_spot, is_rate, is_yield}
 use Rattle.limits.specs.Checks.{first, none}
 use Rattle.limits.specs.Outcome.{Outcome, number_of, answered}
 use Rattle.limits.proofs.Answers.{number_answered}
@@ -57,16 +57,19 @@ builds c kept s a s' n w h p q =
     let b : built_in n w ≡ a = rw (p, q) (built_back a k) in
     record { builds = rw b h; written = rw (b, q) }
 
--- ---- a tray: 6 and 9 are the opening's numbers, and no build's
+-- ---- a tray: 6, 9 and 28 are the opening's numbers, and no build's
+abbrev number : Bool → Bool → Bool → ℕ
+number s r q = if not s then 6 else (if not r then 9 else (if not q then 28 else none))
+
 opening_number : (o : Opening) → eqb (open_refusal o) none ≡ false → is_opening (open_refusal o) ≡ true
 unfolding open_refusal first
-opening_number o h = go (is_spot o.spot) (is_rate o.rate) h
+opening_number o h = go (is_spot o.spot) (is_rate o.rate) (is_yield o.dividend_yield) h
   where
-    go : (s r : Bool) → eqb (if not s then 6 else (if not r then 9 else none)) none ≡ false
-        → is_opening (if not s then 6 else (if not r then 9 else none)) ≡ true
-    go true true h = sym h
-    go true false h = refl
-    go false r h = refl
+    go : (s r q : Bool) → eqb (number s r q) none ≡ false → is_opening (number s r q) ≡ true
+    go true true true h = sym h
+    go true true false h = refl
+    go true false q h = refl
+    go false r q h = refl
 
 -- a row more, whose number is no opening's
 next : (holds : Bool) (number rest : ℕ) → is_opening number ≡ false → is_opening rest ≡ false → is_opening (first holds number rest) ≡ false

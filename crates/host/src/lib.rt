@@ -64,7 +64,7 @@ pub extern "C" fn kite_cdf(x: f64) -> f64
 
 // ---- an option
 
-// Checks 6 to 10.
+// Checks 6 to 9, 28 and 10.
 #[unsafe(no_mangle)]
 pub extern "C" fn kite_bsm_price(
     put: bool,
@@ -72,17 +72,26 @@ pub extern "C" fn kite_bsm_price(
     strike: f64,
     expiry: f64,
     rate: f64,
+    dividend_yield: f64,
     volatility: f64,
     price: &mut f64,
 ) -> u64
-    ensures { told result price.new ≡ pricing (option_of put spot strike expiry rate volatility) }
+    ensures { told result price.new ≡ pricing (option_of put spot strike expiry rate dividend_yield volatility) }
 {
-    let answer = greeks::bsm_price(rows::option_of(put, spot, strike, expiry, rate, volatility));
+    let answer = greeks::bsm_price(rows::option_of(
+        put,
+        spot,
+        strike,
+        expiry,
+        rate,
+        dividend_yield,
+        volatility,
+    ));
     *price = outcomes::price_value(answer);
     outcomes::price_number(answer)
 }
 
-// Checks 6 to 10. Writes delta, gamma, theta, vega, rho, vanna, volga.
+// Checks 6 to 9, 28 and 10. Writes delta, gamma, theta, vega, rho, vanna, volga.
 #[unsafe(no_mangle)]
 pub extern "C" fn kite_bsm_greeks(
     put: bool,
@@ -90,18 +99,27 @@ pub extern "C" fn kite_bsm_greeks(
     strike: f64,
     expiry: f64,
     rate: f64,
+    dividend_yield: f64,
     volatility: f64,
     greeks: &mut [f64; 7],
 ) -> u64
-    ensures { told result greeks.new ≡ over greeks_entries (sensitivities (option_of put spot strike expiry rate volatility)) }
+    ensures { told result greeks.new ≡ over greeks_entries (sensitivities (option_of put spot strike expiry rate dividend_yield volatility)) }
 {
-    let answer = greeks::bsm_greeks(rows::option_of(put, spot, strike, expiry, rate, volatility));
+    let answer = greeks::bsm_greeks(rows::option_of(
+        put,
+        spot,
+        strike,
+        expiry,
+        rate,
+        dividend_yield,
+        volatility,
+    ));
     let g = outcomes::greeks_values(answer);
     *greeks = [g.delta, g.gamma, g.theta, g.vega, g.rho, g.vanna, g.volga];
     outcomes::greeks_number(answer)
 }
 
-// Checks 5 to 9, then solves: 12, 13 (11 never holds: crate bounds).
+// Checks 5 to 9 and 28, then solves: 12, 13 (11 never holds: crate bounds).
 // Writes the volatility, its error, the opposing point c, its error; and the evaluations made.
 #[unsafe(no_mangle)]
 pub extern "C" fn kite_implied_volatility(
@@ -111,15 +129,16 @@ pub extern "C" fn kite_implied_volatility(
     strike: f64,
     expiry: f64,
     rate: f64,
+    dividend_yield: f64,
     values: &mut [f64; 4],
     evaluations: &mut u64,
 ) -> u64
     ensures { told result (written values.new evaluations.new)
-        ≡ over solved_written (end_of (implied market (option_of put spot strike expiry rate (decimal 0 1)))) }
+        ≡ over solved_written (end_of (implied market (option_of put spot strike expiry rate dividend_yield (decimal 0 1)))) }
 {
     let answer = greeks::implied_volatility(
         market,
-        rows::option_of(put, spot, strike, expiry, rate, 0.0),
+        rows::option_of(put, spot, strike, expiry, rate, dividend_yield, 0.0),
     );
     let numbers = rows::numbers_of(answer);
     *values = rows::evidence_of(answer);
@@ -197,6 +216,7 @@ pub extern "C" fn kite_middle_strike(
 pub extern "C" fn kite_at_the_money(
     spot: f64,
     rate: f64,
+    dividend_yield: f64,
     totals: &[u64; 4],
     strike_axis: &[f64],
     expiry_axis: &[f64],
@@ -207,11 +227,11 @@ pub extern "C" fn kite_at_the_money(
     values: &mut [f64; 2],
 ) -> u64
     ensures { told result values.new
-        ≡ over money_entries (at_the_money (book_in (record { spot = spot; rate = rate }) totals.now)
+        ≡ over money_entries (at_the_money (book_in (record { spot = spot; rate = rate; dividend_yield = dividend_yield }) totals.now)
         strike_axis.now expiry_axis.now grid.now strikes expiries expiry) }
 {
     let answer = money::at_the_money(
-        rows::book_of(spot, rate, *totals),
+        rows::book_of(spot, rate, dividend_yield, *totals),
         strike_axis,
         expiry_axis,
         grid,
@@ -259,12 +279,13 @@ pub extern "C" fn kite_build(
 
 // ---- a tray
 
-// Opens a fresh book, hears the list, builds. 6 and 9 are the opening's refusals; 1, 15, 16 and 17 the build's. Writes kept, refused, heard and
+// Opens a fresh book, hears the list, builds. 6, 9 and 28 are the opening's refusals; 1, 15, 16 and 17 the build's. Writes kept, refused, heard and
 // evaluations to `totals`; an offer's number (0 for accepted) and evaluations to `numbers`, its volatility, error, point c and error there to `evidence`.
 #[unsafe(no_mangle)]
 pub extern "C" fn kite_quote_tray(
     spot: f64,
     rate: f64,
+    dividend_yield: f64,
     kinds: &[[bool; 2]],
     figures: &[[f64; 3]],
     numbers: &mut [[u64; 2]],
@@ -279,7 +300,7 @@ pub extern "C" fn kite_quote_tray(
     totals: &mut [u64; 4],
     lengths: &mut [u64; 2],
 ) -> u64
-    ensures { QuotesFor (record { spot = spot; rate = rate })
+    ensures { QuotesFor (record { spot = spot; rate = rate; dividend_yield = dividend_yield })
         (heard_offers kinds.now figures.now (answers numbers.old evidence.old))
         (lent (answers numbers.old evidence.old)
         (columns_of strikes.old expiries.old volatilities.old)
@@ -292,6 +313,7 @@ pub extern "C" fn kite_quote_tray(
     let tray = batch::quote_tray(
         spot,
         rate,
+        dividend_yield,
         kinds,
         figures,
         numbers,

@@ -7,9 +7,9 @@ use mathlib.Core.List.{[], ◌∷◌}
 use lib.ListN.{length}
 use borrow.Author.Tests.{le-ltb, eq-eqb, not-false}
 use Rattle.floats.proofs.Tests.{split}
-use Rattle.limits.specs.Ranges.{is_spot, is_rate}
+use Rattle.limits.specs.Ranges.{is_spot, is_rate, is_yield}
 use Rattle.limits.specs.Checks.{none}
-use Rattle.limits.proofs.Checks.{passes}
+use Rattle.limits.proofs.Checks.{Rows, passes}
 use Rattle.brent.specs.Feed.{most_evaluations}
 use Rattle.chart.specs.Quotes.{all_in_range}
 use Rattle.chart.proofs.Kept.{Long, long}
@@ -70,15 +70,21 @@ same_short opening was l t a =
     )
 
 -- an accepted opening
-pub accepted : (opening : Opening) → open_refusal opening ≡ none → (is_spot opening.spot ≡ true) × (is_rate opening.rate ≡ true)
+pub accepted : (opening : Opening) → open_refusal opening ≡ none
+    → (is_spot opening.spot ≡ true) × (is_rate opening.rate ≡ true) × (is_yield opening.dividend_yield ≡ true)
 unfolding open_refusal
 accepted opening h =
-    let p = (passes ((not (is_spot opening.spot), 6) ∷ (not (is_rate opening.rate), 9) ∷ []) none refl h).0 in
-    (not-false (is_spot opening.spot) p.0, not-false (is_rate opening.rate) p.1.0)
+    let rows : Rows = (not (is_spot opening.spot), 6) ∷ (not (is_rate opening.rate), 9) ∷ (not (is_yield opening.dividend_yield), 28) ∷ [] in
+    let p = (passes rows none refl h).0 in (
+      not-false (is_spot opening.spot) p.0,
+      not-false (is_rate opening.rate) p.1.0,
+      not-false (is_yield opening.dividend_yield) p.1.1.0,
+    )
 
 -- 2 never holds
-in_bounds : {a b c d e f : Bool} → a ≡ false → b ≡ true → c ≡ false → d ≡ false → e ≡ true → f ≡ true → (a || not b || c || d || not e || not f) ≡ false
-in_bounds p q r s t u = rw (p, q, r, s, t, u)
+in_bounds : {a b c d e f g : Bool} → a ≡ false → b ≡ true → c ≡ false → d ≡ false → e ≡ true → f ≡ true → g ≡ true
+    → (a || not b || c || d || not e || not f || not g) ≡ false
+in_bounds p q r s t u v = rw (p, q, r, s, t, u, v)
 
 pub unbroken : (opening : Opening) (was : Columns) (l : Ledger) (t : Tally) → open_refusal opening ≡ none → Agree opening was l t → is_broken l.book ≡ false
 unfolding is_broken
@@ -91,3 +97,4 @@ unbroken opening was l t ok a =
     (le-ltb (most_evaluations * b.heard) b.evaluations (omega (arith, a.heard, a.evaluations, a.cost)))
     (ap (λ (o : Opening). is_spot o.spot) a.inputs ∙ w.0)
     (ap (λ (o : Opening). is_rate o.rate) a.inputs ∙ w.1)
+    (ap (λ (o : Opening). is_yield o.dividend_yield) a.inputs ∙ w.2)

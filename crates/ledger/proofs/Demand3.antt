@@ -17,7 +17,8 @@ opens opening =
       stays_shut = λ n. rw (ne_eqb (open_refusal opening) none n);
       by_spot = λ s. rw s;
       by_rate = λ s r. rw (s, r);
-      accepted = λ s r. rw (s, r);
+      by_yield = λ s r y. rw (s, r, y);
+      accepted = λ s r y. rw (s, r, y);
     }
 
 pub claim : Claim

@@ -5,7 +5,7 @@ use mathlib.Core.List.{[], ◌∷◌}
 use Prim.Native.Nat.{◌+◌, ◌*◌, ◌≤◌}
 use lib.Dec.{ltb, eqb}
 use borrow.Author.Tests.{ltb-false, eqb-true, not-false}
-use Rattle.limits.specs.Ranges.{is_spot, is_rate}
+use Rattle.limits.specs.Ranges.{is_spot, is_rate, is_yield}
 use Rattle.limits.proofs.Checks.{none_of}
 use Rattle.brent.specs.Feed.{most_evaluations}
 use Rattle.ledger.specs.Book.{is_broken}
@@ -19,13 +19,14 @@ pub record Bounds (b : Book) : Type 0 where
   pub cost : b.evaluations ≤ most_evaluations * b.heard
   pub spot : is_spot b.spot ≡ true
   pub rate : is_rate b.rate ≡ true
+  pub yield : is_yield b.dividend_yield ≡ true
 
 pub bounds_of : (b : Book) → is_broken b ≡ false → Bounds b
 unfolding is_broken
 bounds_of b h =
     let s = none_of (ltb 1024 b.kept)
     (not (eqb (b.kept + b.refused) b.heard) ∷ ltb 60000 b.heard ∷ ltb (most_evaluations * b.heard) b.evaluations
-    ∷ not (is_spot b.spot) ∷ not (is_rate b.rate) ∷ []) h in
+    ∷ not (is_spot b.spot) ∷ not (is_rate b.rate) ∷ not (is_yield b.dividend_yield) ∷ []) h in
     record {
       room = ltb-false 1024 b.kept s.0;
       sum = eqb-true (b.kept + b.refused) b.heard (not-false _ s.1.0);
@@ -33,4 +34,5 @@ bounds_of b h =
       cost = ltb-false (most_evaluations * b.heard) b.evaluations s.1.1.1.0;
       spot = not-false _ s.1.1.1.1.0;
       rate = not-false _ s.1.1.1.1.1.0;
+      yield = not-false _ s.1.1.1.1.1.1.0;
     }

@@ -70,6 +70,7 @@ module _ (model : Model) (opening : Opening) (was : Columns) (os : List Offer) (
       λ i. record {
         spot = (same i).spot;
         rate = (same i).rate;
+        dividend_yield = (same i).dividend_yield;
         kept = (p.kept ∙ sym q.kept) i;
         refused = (p.refused ∙ sym q.refused) i;
         heard = (p.heard ∙ sym q.heard) i;

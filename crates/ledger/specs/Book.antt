@@ -1,7 +1,7 @@
 -- Document 01, 'The quote book': what each call answers, and what it does to the record and the columns, for every record and columns a caller can pass.
 use Rattle.std.specs.Prelude.{ℕ, ◌+◌, ◌*◌, Bool, not, ◌||◌, leb, ltb, eqb, set, Float}
 use Rattle.floats.specs.Operators.{decimal, if◌then◌else◌}
-use Rattle.limits.specs.Ranges.{is_spot, is_strike, is_expiry, is_rate}
+use Rattle.limits.specs.Ranges.{is_spot, is_strike, is_expiry, is_rate, is_yield}
 use Rattle.limits.specs.Checks.{first, none}
 use Rattle.limits.specs.Outcome.{Outcome, done, refused, answered}
 use Rattle.brent.specs.declared.Solution.{Solution}
@@ -21,22 +21,24 @@ use Rattle.ledger.specs.declared.Opened.TheVariants as Opened
 
 -- ---- the record, and the columns that are lent
 abbrev pub opening_of : Book → Opening
-opening_of b = record { spot = b.spot; rate = b.rate }
+opening_of b = record { spot = b.spot; rate = b.rate; dividend_yield = b.dividend_yield }
 
 -- "A fresh book is the record an accepted opening returns, all counts 0."
 abbrev pub fresh : Opening → Book
-fresh o = record { spot = o.spot; rate = o.rate; kept = 0; refused = 0; heard = 0; evaluations = 0 }
+fresh o =
+    record { spot = o.spot; rate = o.rate; dividend_yield = o.dividend_yield; kept = 0; refused = 0; heard = 0; evaluations = 0 }
 
 -- The record of a refused opening.
 abbrev pub zero_book : Book
-zero_book = fresh (record { spot = decimal 0 1; rate = decimal 0 1 })
+zero_book = fresh (record { spot = decimal 0 1; rate = decimal 0 1; dividend_yield = decimal 0 1 })
 
 -- ---- the opening
 unfoldable pub open_refusal : Opening → ℕ
 open_refusal o =
     first (not (is_spot o.spot)) 6
     (first (not (is_rate o.rate)) 9
-    none)
+    (first (not (is_yield o.dividend_yield)) 28
+    none))
 
 unfoldable pub opened : Opening → Outcome Book
 unfolding open_refusal
@@ -51,7 +53,7 @@ outcome_of_opening (Opened.Refused number book) = refused number book
 abbrev pub shorter : ℕ → ℕ → ℕ → Bool
 shorter strikes expiries volatilities = ltb strikes 1024 || ltb expiries 1024 || ltb volatilities 1024
 
--- 2. The record is out of bounds.
+-- 2. The record is out of bounds; "28 .. in a record, as part of 2".
 unfoldable pub is_broken : Book → Bool
 is_broken b =
     ltb 1024 b.kept
@@ -60,6 +62,7 @@ is_broken b =
     || ltb (most_evaluations * b.heard) b.evaluations
     || not (is_spot b.spot)
     || not (is_rate b.rate)
+    || not (is_yield b.dividend_yield)
 
 -- The offer's own: 5, 7, 8, 10.
 unfoldable pub own_refusal : Offer → ℕ
@@ -103,12 +106,23 @@ offer_outcome model short b o =
 -- ---- what it does to the record and the columns
 -- An accepted offer "adds one to kept and heard, adds the solver's evaluations"; "1 to 3 keep the book record; 4, 5, 7, 8 and 10 to 14, met by an offer,
 -- add one to heard and refused and add the evaluations made." (14 left with S-10.)
+abbrev pub heard_book : Book → ℕ → ℕ → ℕ → Book
+heard_book b kept turned made =
+    record {
+      spot = b.spot;
+      rate = b.rate;
+      dividend_yield = b.dividend_yield;
+      kept = kept;
+      refused = turned;
+      heard = b.heard + 1;
+      evaluations = b.evaluations + made;
+    }
+
 abbrev pub kept_book : Book → ℕ → Book
-kept_book b made = record { spot = b.spot; rate = b.rate; kept = b.kept + 1; refused = b.refused; heard = b.heard + 1; evaluations = b.evaluations + made }
+kept_book b made = heard_book b (b.kept + 1) b.refused made
 
 abbrev pub turned_book : Book → ℕ → Book
-turned_book b made =
-    record { spot = b.spot; rate = b.rate; kept = b.kept; refused = b.refused + 1; heard = b.heard + 1; evaluations = b.evaluations + made }
+turned_book b made = heard_book b b.kept (b.refused + 1) made
 
 unfoldable pub book_after : Book → Outcome Solution → Book
 book_after b (done x) = kept_book b x.evaluations

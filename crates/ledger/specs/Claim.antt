@@ -4,7 +4,7 @@ use Rattle.std.specs.Prelude.{ℕ, ◌+◌, ◌≤◌, ◌<◌, ◌≡◌, Bool,
 use mathlib.Core.List.{List, [], ◌∷◌, ◌++◌, Memᴰ, map}
 use Rattle.std.specs.Float.{nan}
 use Rattle.floats.specs.Operators.{decimal, ◌⊖◌, if◌then◌else◌}
-use Rattle.limits.specs.Ranges.{is_price, is_spot, is_rate, is_strike, is_expiry, is_volatility}
+use Rattle.limits.specs.Ranges.{is_price, is_spot, is_rate, is_yield, is_strike, is_expiry, is_volatility}
 use Rattle.limits.specs.Checks.{first, none}
 use Rattle.limits.specs.Outcome.{Outcome, done, refused, is_done, number_of, values_of, answered}
 use Rattle.brent.specs.declared.Solution.{Solution}
@@ -231,13 +231,30 @@ module _ (qs : List Quote) (s : Buffers) where
 -- "A fresh book is the record an accepted opening returns, all counts 0." "A refused opening returns a record of zeros."
 pub record OpeningClaim (opening : Opening) (answer : Outcome Book) : Type 0 where
   pub opens : open_refusal opening ≡ none
-      → answer ≡ done (record { spot = opening.spot; rate = opening.rate; kept = 0; refused = 0; heard = 0; evaluations = 0 })
+      → answer ≡ done (record {
+        spot = opening.spot;
+        rate = opening.rate;
+        dividend_yield = opening.dividend_yield;
+        kept = 0;
+        refused = 0;
+        heard = 0;
+        evaluations = 0;
+      })
   pub stays_shut : (open_refusal opening ≡ none → ⊥)
-      → answer ≡ refused (open_refusal opening) (record { spot = decimal 0 1; rate = decimal 0 1; kept = 0; refused = 0; heard = 0; evaluations = 0 })
-  -- 6 for the spot, then 9 for the rate, and no other
+      → answer ≡ refused (open_refusal opening) (record {
+        spot = decimal 0 1;
+        rate = decimal 0 1;
+        dividend_yield = decimal 0 1;
+        kept = 0;
+        refused = 0;
+        heard = 0;
+        evaluations = 0;
+      })
+  -- 6 for the spot, then 9 for the rate, then 28 for the yield, and no other
   pub by_spot : is_spot opening.spot ≡ false → number_of answer ≡ 6
   pub by_rate : is_spot opening.spot ≡ true → is_rate opening.rate ≡ false → number_of answer ≡ 9
-  pub accepted : is_spot opening.spot ≡ true → is_rate opening.rate ≡ true → is_done answer ≡ true
+  pub by_yield : is_spot opening.spot ≡ true → is_rate opening.rate ≡ true → is_yield opening.dividend_yield ≡ false → number_of answer ≡ 28
+  pub accepted : is_spot opening.spot ≡ true → is_rate opening.rate ≡ true → is_yield opening.dividend_yield ≡ true → is_done answer ≡ true
 
 -- ---- demand 3
 pub record Demand3 (model : Model) (opening : Opening) (c : Columns) (os : List Offer) (s : Buffers) : Type 0 where

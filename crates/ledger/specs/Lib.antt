@@ -8,3 +8,4 @@ pub mod Claim
 pub mod Calls
 pub mod Rows
 pub mod Twelve
+pub mod ZeroYield

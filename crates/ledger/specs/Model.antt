@@ -7,10 +7,11 @@ use Rattle.ledger.specs.declared.Offer.{Offer}
 use Rattle.ledger.specs.declared.Terms.{Terms}
 use Rattle.ledger.specs.declared.Terms.TheVariants.{Volatility, Price}
 
--- The opening's inputs. S-6 will put the yield here.
+-- The opening's inputs.
 pub record Opening : Type 0 where
   pub spot : Float
   pub rate : Float
+  pub dividend_yield : Float
 
 -- The price at a volatility, of an option by its kind, strike and expiry.
 abbrev pub Model : Type 0
@@ -23,6 +24,7 @@ bsm o kind strike expiry v =
       strike = strike;
       time_to_expiry = expiry;
       risk_free_rate = o.rate;
+      dividend_yield = o.dividend_yield;
       volatility = v;
       option_type = kind;
     })

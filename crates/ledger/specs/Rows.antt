@@ -32,13 +32,14 @@ offer_of kind row =
     record { strike = get_or row 0 nan; expiry = get_or row 1 nan; terms = terms_of (get_or kind 0 false) (get_or kind 1 false) (get_or row 2 nan) }
 
 -- ---- an option, as it is passed
-unfoldable pub option_of : Bool → Float → Float → Float → Float → Float → OptionParams
-option_of put spot strike expiry rate volatility =
+unfoldable pub option_of : Bool → Float → Float → Float → Float → Float → Float → OptionParams
+option_of put spot strike expiry rate dividend-yield volatility =
     record {
       spot = spot;
       strike = strike;
       time_to_expiry = expiry;
       risk_free_rate = rate;
+      dividend_yield = dividend-yield;
       volatility = volatility;
       option_type = kind_of put;
     }
@@ -83,6 +84,7 @@ book_in o totals =
     record {
       spot = o.spot;
       rate = o.rate;
+      dividend_yield = o.dividend_yield;
       kept = get_or totals 0 0;
       refused = get_or totals 1 0;
       heard = get_or totals 2 0;
@@ -96,8 +98,8 @@ pub record Rows : Type 0 where
   pub call : (k t market : Float) → offer_of (true ∷ false ∷ []) (k ∷ t ∷ market ∷ []) ≡ priced Call k t market
   pub put : (k t market : Float) → offer_of (true ∷ true ∷ []) (k ∷ t ∷ market ∷ []) ≡ priced Put k t market
   -- the option passed has the price that the book's model gives it
-  pub call_price : (s k t r v : Float) → price (option_of false s k t r v) ≡ bsm (record { spot = s; rate = r }) Call k t v
-  pub put_price : (s k t r v : Float) → price (option_of true s k t r v) ≡ bsm (record { spot = s; rate = r }) Put k t v
+  pub call_price : (s k t r q v : Float) → price (option_of false s k t r q v) ≡ bsm (record { spot = s; rate = r; dividend_yield = q }) Call k t v
+  pub put_price : (s k t r q v : Float) → price (option_of true s k t r q v) ≡ bsm (record { spot = s; rate = r; dividend_yield = q }) Put k t v
   -- an accepted offer's answer; a refused one's has its number, the evaluations made, and zeros
   pub numbers_found : (v e c f : Float) (n : ℕ) → numbers_of (done (record { volatility = v; error = e; c = c; c_error = f; evaluations = n })) ≡ 0 ∷ n ∷ []
   pub figures_found : (v e c f : Float) (n : ℕ)
@@ -115,7 +117,16 @@ pub record Rows : Type 0 where
   pub built : (strikes expiries : ℕ) → built_in 0 (strikes ∷ expiries ∷ []) ≡ Built.Surface strikes expiries
   pub not_built : (number : ℕ) (lengths : List ℕ) → (number ≡ 0 → ⊥) → built_in number lengths ≡ Built.Refused number
   -- kept, refused, heard, evaluations
-  pub totals : (spot rate : Float) (k r h e : ℕ)
-      → totals_of (record { spot = spot; rate = rate; kept = k; refused = r; heard = h; evaluations = e }) ≡ k ∷ r ∷ h ∷ e ∷ []
+  pub totals : (s r q : Float) (kept refused heard evaluations : ℕ)
+      → totals_of (record {
+        spot = s;
+        rate = r;
+        dividend_yield = q;
+        kept = kept;
+        refused = refused;
+        heard = heard;
+        evaluations = evaluations;
+      }) ≡ kept ∷ refused ∷ heard ∷ evaluations ∷ []
   pub book : (o : Opening) (k r h e : ℕ)
-      → book_in o (k ∷ r ∷ h ∷ e ∷ []) ≡ record { spot = o.spot; rate = o.rate; kept = k; refused = r; heard = h; evaluations = e }
+      → book_in o (k ∷ r ∷ h ∷ e ∷ [])
+      ≡ record { spot = o.spot; rate = o.rate; dividend_yield = o.dividend_yield; kept = k; refused = r; heard = h; evaluations = e }

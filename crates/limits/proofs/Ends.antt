@@ -13,5 +13,6 @@ ends =
       strike = record { lowest = refl; highest = refl; below = refl; above = refl; infinite = refl; minus_infinite = refl; missing = refl };
       expiry = record { lowest = refl; highest = refl; below = refl; above = refl; infinite = refl; minus_infinite = refl; missing = refl };
       rate = record { lowest = refl; highest = refl; below = refl; above = refl; infinite = refl; minus_infinite = refl; missing = refl };
+      yield = record { lowest = refl; highest = refl; below = refl; above = refl; infinite = refl; minus_infinite = refl; missing = refl };
       volatility = record { lowest = refl; highest = refl; below = refl; above = refl; infinite = refl; minus_infinite = refl; missing = refl };
     }

@@ -1,10 +1,10 @@
--- The ranges of checks 5 to 10 from their ends: the last f64 on either side that passes, and the first that does not. Document 01's numbers stand here
+-- The ranges of checks 5 to 10 and 28 from their ends: the last f64 on either side that passes, and the first that does not. Document 01's numbers stand here
 -- a second time, so that a range that is wrong in its definition and in the code alike does not get past them.
 use Rattle.std.specs.Prelude.{ℕ, ◌+◌, ◌-◌, ◌^◌, ◌≡◌, Bool, true, false, Float}
 use Rattle.std.specs.Float.{nan, inf, binary64}
 use Rattle.std.specs.Float.Ieee.{neg, of_bits, to_bits}
 use Rattle.floats.specs.Operators.{decimal}
-use Rattle.limits.specs.Ranges.{is_price, is_spot, is_strike, is_expiry, is_rate, is_volatility}
+use Rattle.limits.specs.Ranges.{is_price, is_spot, is_strike, is_expiry, is_rate, is_yield, is_volatility}
 
 -- The f64 next to x, away from 0 and towards it.
 abbrev pub farther : Float → Float
@@ -36,5 +36,7 @@ pub record Ends : Type 0 where
   pub expiry : Passes is_expiry (nearer millionth) millionth (decimal (10 ^ 2) 1) (farther (decimal (10 ^ 2) 1))
   -- "-1 to 1"
   pub rate : Passes is_rate (farther (neg (decimal 1 1))) (neg (decimal 1 1)) (decimal 1 1) (farther (decimal 1 1))
+  -- 28: "-1 to 1"
+  pub yield : Passes is_yield (farther (neg (decimal 1 1))) (neg (decimal 1 1)) (decimal 1 1) (farther (decimal 1 1))
   -- "0.000001 to 10"
   pub volatility : Passes is_volatility (nearer millionth) millionth (decimal 10 1) (farther (decimal 10 1))

@@ -1,4 +1,5 @@
--- Document 01, 'What is turned down, in checking order': the ranges of checks 5 to 10. A check holds, and refuses, where its test here is false.
+-- Document 01, 'What is turned down, in checking order': the ranges of checks 5 to 10, and of 28 (S-6). A check holds, and refuses, where its test here is
+-- false.
 use Rattle.std.specs.Prelude.{Bool, ◌&&◌, Float}
 use Rattle.std.specs.Float.Ieee.{neg}
 use Rattle.floats.specs.Operators.{decimal, ◌≺◌, ◌≼◌}
@@ -27,6 +28,10 @@ is_expiry t = within (decimal 1 1000000) (decimal 100 1) t
 -- 9. A rate: -1 to 1.
 abbrev pub is_rate : Float → Bool
 is_rate r = within (neg (decimal 1 1)) (decimal 1 1) r
+
+-- 28. A dividend yield: -1 to 1. Written out, since the document gives it on its own.
+abbrev pub is_yield : Float → Bool
+is_yield q = within (neg (decimal 1 1)) (decimal 1 1) q
 
 -- 10. A volatility: 0.000001 to 10. The solver's ends, and the range that 21 asks of its points, are the same.
 abbrev pub lowest_volatility : Float

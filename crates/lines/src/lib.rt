@@ -75,6 +75,7 @@ pub fn start() -> State
         book: Book {
             spot: 0.0,
             rate: 0.0,
+            dividend_yield: 0.0,
             kept: 0,
             refused: 0,
             heard: 0,

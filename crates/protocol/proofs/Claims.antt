@@ -1,10 +1,11 @@
 -- The claims of specs/Claims.antt. Assumes nothing.
-use mathlib.Core.Path.{◌≡◌, refl, ap, ◌∙◌}
+use mathlib.Core.Path.{◌≡◌, refl, sym, ap, ◌∙◌}
 use mathlib.Core.List.{List, [], ◌∷◌, map}
 use borrow.Author.Tests.{eq-eqb, ne_eqb}
 use lib.Ieee.{Float}
+use Rattle.floats.specs.Operators.{decimal}
 use Rattle.limits.specs.Checks.{none}
-use Rattle.limits.specs.Outcome.{Outcome, done, refused, answered}
+use Rattle.limits.specs.Outcome.{Outcome, done, refused, values_of, answered}
 use Rattle.blackscholes.specs.declared.OptionType.TheVariants as OptionType
 use Rattle.ledger.specs.Model.{Opening, bsm}
 use Rattle.ledger.specs.declared.Offer.{Offer}
@@ -33,13 +34,24 @@ unfolding hears asked_by answers reads
 read_only l strike expiry =
     said_book l (λ (x : Float). x) (read_of (buffers_after l.book l.columns blank) strike expiry (build_outcome l.book l.columns blank))
 
-shut : (l : Ledger) (o : Opening) → (open_refusal o ≡ none → ⊥) → (hears l (Open o.spot o.rate)).book ≡ ledger zero_book l.columns
-unfolding hears asked_by answers opens opened answered
-shut l o n = said_book _ _ (opened o) ∙ rw (ne_eqb (open_refusal o) none n)
+-- an opening without a yield is that of the 10 line with its spot and rate
+opens_as : (l : Ledger) (o : Opening) → o.dividend_yield ≡ decimal 0 1 → hears l (Open o.spot o.rate) ≡ opens l o
+unfolding hears asked_by answers
+opens_as l o y = ap (λ (q : Float). opens l (record { spot = o.spot; rate = o.rate; dividend_yield = q })) (sym y)
 
-accepted : (l : Ledger) (o : Opening) → open_refusal o ≡ none → (hears l (Open o.spot o.rate)).book ≡ ledger (fresh o) l.columns
-unfolding hears asked_by answers opens opened answered
-accepted l o e = said_book _ _ (opened o) ∙ rw (eq-eqb (open_refusal o) none e)
+opens_book : (l : Ledger) (o : Opening) → (opens l o).book ≡ ledger (values_of (opened o)) l.columns
+unfolding opens
+opens_book l o = said_book _ _ (opened o)
+
+shut : (l : Ledger) (o : Opening) → o.dividend_yield ≡ decimal 0 1 → (open_refusal o ≡ none → ⊥)
+    → (hears l (Open o.spot o.rate)).book ≡ ledger zero_book l.columns
+unfolding opened answered
+shut l o y n = ap (λ (h : Told Ledger). h.book) (opens_as l o y) ∙ opens_book l o ∙ rw (ne_eqb (open_refusal o) none n)
+
+accepted : (l : Ledger) (o : Opening) → o.dividend_yield ≡ decimal 0 1 → open_refusal o ≡ none
+    → (hears l (Open o.spot o.rate)).book ≡ ledger (fresh o) l.columns
+unfolding opened answered
+accepted l o y e = ap (λ (h : Told Ledger). h.book) (opens_as l o y) ∙ opens_book l o ∙ rw (eq-eqb (open_refusal o) none e)
 
 line_of : (l : Ledger) (strike expiry : Float) (terms : Terms)
     → hears l (line_of_terms strike expiry terms) ≡ offers l (record { strike = strike; expiry = expiry; terms = terms })

@@ -1,12 +1,13 @@
 -- The numbers that frames are answered with. Assumes nothing.
 use Prim.Native.Nat.{ℕ}
-use mathlib.Core.Path.{◌≡◌, refl}
+use mathlib.Core.Path.{◌≡◌, refl, sym, subst}
 use mathlib.Core.Bool.{Bool, true, not, ◌&&◌, cond}
 use lib.Dec.{leb, eqb}
 use borrow.Author.Tests.{leb-true, eq-eqb, not-true}
-use lib.Ieee.{Float}
+use lib.Ieee.{Float, neg, lt, le, round}
 use Rattle.floats.specs.Operators.{decimal, if◌then◌else◌}
 use Rattle.floats.proofs.Tests.{by, clash, and_left, and_right}
+use Rattle.limits.specs.Ranges.{within, is_yield}
 use Rattle.limits.specs.Checks.{first, none}
 use Rattle.limits.specs.Outcome.{Outcome, done, refused, values_of, answered}
 use Rattle.brent.specs.declared.Solution.{Solution}
@@ -18,7 +19,7 @@ use Rattle.brent.proofs.Theorem.{claim}
 use Rattle.grid.specs.Readings.{read_refusal, reading}
 use Rattle.chart.specs.Build.{Lengths, refusal}
 use Rattle.blackscholes.specs.declared.OptionType.{OptionType}
-use Rattle.ledger.specs.Model.{Opening, Model, bsm, prices_of}
+use Rattle.ledger.specs.Model.{Model, bsm, prices_of}
 use Rattle.ledger.specs.Book.{Columns, is_short, open_refusal, opened, own_refusal, offer_refusal, end_of, answer_to, answer, offer_outcome}
 use Rattle.ledger.specs.declared.Offer.{Offer}
 use Rattle.ledger.specs.declared.Terms.{Terms}
@@ -30,7 +31,7 @@ use Rattle.hex.specs.declared.Frame.{Frame}
 use Rattle.protocol.specs.declared.Asked.{Asked}
 use Rattle.protocol.specs.declared.Asked.TheVariants as Asked
 use Rattle.protocol.specs.Claims.{Tabled}
-use Rattle.protocol.specs.Hear.{ledger, said, opens, offers, blank, read_of, reads, asked_by, answers, hears}
+use Rattle.protocol.specs.Hear.{ledger, said, opening_at, opens, offers, blank, read_of, reads, asked_by, answers, hears}
 
 is_tabled : (n : ℕ) → (leb n 21 && not (eqb n 14)) ≡ true → Tabled n
 is_tabled n h =
@@ -54,9 +55,14 @@ no_number = is_tabled none refl
 chosen : {X : Type 0} (n : ℕ) (x : X) (o : Outcome X) → Tabled n → InTable o → InTable (if eqb n none then o else refused n x)
 chosen n x o h k = by InTable (λ (b : Bool). cond b o (refused n x)) (eqb n none) (λ _. k) (λ _. h)
 
-open_tabled : (o : Opening) → InTable (opened o)
+-- the yield of a 10 line passes 28
+yield_passes : first (not (is_yield (decimal 0 1))) 28 none ≡ none
+unfolding first within lt le round neg
+yield_passes = refl
+
+open_tabled : (spot rate : Float) → InTable (opened (opening_at spot rate))
 unfolding opened open_refusal answered
-open_tabled o = chosen _ _ (done _) (next _ 6 _ refl (next _ 9 none refl no_number)) tt
+open_tabled spot rate = chosen _ _ (done _) (next _ 6 _ refl (next _ 9 _ refl (subst Tabled (sym yield_passes) no_number))) tt
 
 given_tabled : {n k : ℕ} → Given n k → Tabled n
 given_tabled five = is_tabled 5 refl
@@ -114,9 +120,11 @@ unfolding said
 said_tabled l value (done x) h = no_number
 said_tabled l value (refused number x) h = h
 
-opens_tabled : (l : Ledger) (o : Opening) → Tabled (opens l o).number
+opens_tabled : (l : Ledger) (spot rate : Float) → Tabled (opens l (opening_at spot rate)).number
 unfolding opens
-opens_tabled l o = said_tabled (ledger (values_of (opened o)) l.columns) (λ (b : Book). decimal 0 1) (opened o) (open_tabled o)
+opens_tabled l spot rate =
+    let o = opening_at spot rate in
+    said_tabled (ledger (values_of (opened o)) l.columns) (λ (b : Book). decimal 0 1) (opened o) (open_tabled spot rate)
 
 offers_tabled : (l : Ledger) (o : Offer) → Tabled (offers l o).number
 unfolding offers
@@ -133,7 +141,7 @@ reads_tabled l strike expiry =
 
 asked_tabled : (l : Ledger) (a : Asked) → Tabled (answers l a).number
 unfolding answers
-asked_tabled l (Asked.Open spot rate) = opens_tabled l (record { spot = spot; rate = rate })
+asked_tabled l (Asked.Open spot rate) = opens_tabled l spot rate
 asked_tabled l (Asked.Quote offer) = offers_tabled l offer
 asked_tabled l (Asked.Read strike expiry) = reads_tabled l strike expiry
 asked_tabled l Asked.Nothing = is_tabled (answers l Asked.Nothing).number refl

@@ -1,6 +1,7 @@
 -- What is proved of these definitions beside the contracts of the code (proofs/Claims.antt).
 use Rattle.std.specs.Prelude.{ℕ, ◌*◌, ◌≤◌, ◌<◌, ◌≡◌, List, [], ◌∷◌, ◌++◌, map, Float, length}
 use Rattle.std.specs.Float.{nan}
+use Rattle.floats.specs.Operators.{decimal}
 use Rattle.blackscholes.specs.declared.OptionType.TheVariants as OptionType
 use Rattle.ledger.specs.Model.{Opening, bsm}
 use Rattle.ledger.specs.declared.Offer.{Offer}
@@ -60,8 +61,10 @@ pub record Program : Type 0 where
   pub bad_only : (l : Ledger) → (hears l Bad).book ≡ l
   -- "20: strike, expiry": the strike comes first. A blank one is never answered by 20, which is the expiry's number and that of a gap.
   pub blank_strike : (l : Ledger) (expiry : Float) → (hears l (Read nan expiry)).number ≡ 20 → ⊥
-  -- A refused opening leaves the record of zeros; an accepted one a fresh book. The columns stay.
-  pub shut : (l : Ledger) (o : Opening) → (open_refusal o ≡ none → ⊥) → (hears l (Open o.spot o.rate)).book ≡ ledger zero_book l.columns
-  pub opened : (l : Ledger) (o : Opening) → open_refusal o ≡ none → (hears l (Open o.spot o.rate)).book ≡ ledger (fresh o) l.columns
+  -- A refused opening leaves the record of zeros; an accepted one a fresh book, whose yield is 0 whatever it was before. The columns stay.
+  pub shut : (l : Ledger) (o : Opening) → o.dividend_yield ≡ decimal 0 1 → (open_refusal o ≡ none → ⊥)
+      → (hears l (Open o.spot o.rate)).book ≡ ledger zero_book l.columns
+  pub opened : (l : Ledger) (o : Opening) → o.dividend_yield ≡ decimal 0 1 → open_refusal o ≡ none
+      → (hears l (Open o.spot o.rate)).book ≡ ledger (fresh o) l.columns
   -- Lines of offers are heard as demand 3's list is: its claim holds of the record and the columns that the program holds after them.
   pub tray : (l : Ledger) (os : List Offer) → book_after hears l (map line_of_offer os) ≡ after (hear bsm) l os

@@ -29,7 +29,10 @@ unfoldable pub said : {X : Type 0} → Ledger → (X → Float) → Outcome X �
 said l value (done x) = record { book = l; number = none; value = value x }
 said l value (refused number x) = record { book = l; number = number; value = decimal 0 1 }
 
--- ---- 10: "spot, rate (a fresh book)"
+-- ---- 10: "spot, rate (a fresh book)", and document 02 of the yield: "a 10 line sets it to 0"
+abbrev pub opening_at : Float → Float → Opening
+opening_at spot rate = record { spot = spot; rate = rate; dividend_yield = decimal 0 1 }
+
 -- "A refused opening returns a record of zeros", and the program then holds it. The columns stay as they are: a fresh book has kept none of their entries.
 -- There is no value.
 unfoldable pub opens : Ledger → Opening → Told Ledger
@@ -69,7 +72,7 @@ asked_by Bad = Asked.Nothing
 -- 21, "It comes before all others": nothing changes.
 unfoldable pub answers : Ledger → Asked → Told Ledger
 unfolding said opens offers reads
-answers l (Asked.Open spot rate) = opens l (record { spot = spot; rate = rate })
+answers l (Asked.Open spot rate) = opens l (opening_at spot rate)
 answers l (Asked.Quote offer) = offers l offer
 answers l (Asked.Read strike expiry) = reads l strike expiry
 answers l Asked.Nothing = record { book = l; number = 21; value = decimal 0 1 }

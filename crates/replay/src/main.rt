@@ -55,12 +55,12 @@ fn kind_of(head: &[u8; 6]) -> usize
 
 // How many words a line of a kind has.
 fn width(kind: usize) -> usize
-    ensures { result ≤ 14 }
+    ensures { result ≤ 15 }
 {
     match kind {
-        6 => 8,
-        7 => 14,
-        8 => 12,
+        6 => 9,
+        7 => 15,
+        8 => 13,
         14 => 4,
         9 | 10 | 13 | 15 | 17 => 3,
         _ => 2,
@@ -85,8 +85,8 @@ fn digit(b: u8) -> u64 {
 }
 
 // The word at an index: after a space, 16 hexadecimal digits.
-fn word(line: &[u8; 240], at: usize) -> u64
-    requires { at < 14 }
+fn word(line: &[u8; 256], at: usize) -> u64
+    requires { at < 15 }
 {
     let from = 17 * at + 1;
     let mut n: u64 = 0;
@@ -115,15 +115,15 @@ fn bits_of(x: f64) -> u64 {
     }
 }
 
-fn float(line: &[u8; 240], at: usize) -> f64
-    requires { at < 14 }
+fn float(line: &[u8; 256], at: usize) -> f64
+    requires { at < 15 }
 {
     float_of(word(line, at))
 }
 
 // Whether the word at an index holds that number.
-fn holds(line: &[u8; 240], at: usize, x: f64) -> bool
-    requires { at < 14 }
+fn holds(line: &[u8; 256], at: usize, x: f64) -> bool
+    requires { at < 15 }
 {
     bits_of(x) == word(line, at)
 }
@@ -149,7 +149,7 @@ fn value(kind: usize, x: f64) -> f64 {
     normal::cdf(x)
 }
 
-fn judge_function(kind: usize, line: &[u8; 240]) -> bool {
+fn judge_function(kind: usize, line: &[u8; 256]) -> bool {
     holds(line, 1, value(kind, float(line, 0)))
 }
 
@@ -161,8 +161,8 @@ fn type_of(word: u64) -> OptionType {
     }
 }
 
-// The option whose spot, strike, expiry and rate start at an index.
-fn option(line: &[u8; 240], from: usize, volatility: f64) -> OptionParams
+// The option whose spot, strike, expiry, rate and yield start at an index.
+fn option(line: &[u8; 256], from: usize, volatility: f64) -> OptionParams
     requires { from < 3 }
 {
     OptionParams {
@@ -170,23 +170,24 @@ fn option(line: &[u8; 240], from: usize, volatility: f64) -> OptionParams
         strike: float(line, from + 1),
         time_to_expiry: float(line, from + 2),
         risk_free_rate: float(line, from + 3),
+        dividend_yield: float(line, from + 4),
         volatility,
         option_type: type_of(word(line, 0)),
     }
 }
 
-fn judge_price(line: &[u8; 240]) -> bool {
-    let answer = greeks::bsm_price(option(line, 1, float(line, 5)));
+fn judge_price(line: &[u8; 256]) -> bool {
+    let answer = greeks::bsm_price(option(line, 1, float(line, 6)));
     match answer {
-        Priced::Price { value } => (word(line, 6) == 0) & holds(line, 7, value),
-        Priced::Refused { number } => (word(line, 6) == number) & holds(line, 7, 0.0),
+        Priced::Price { value } => (word(line, 7) == 0) & holds(line, 8, value),
+        Priced::Refused { number } => (word(line, 7) == number) & holds(line, 8, 0.0),
     }
 }
 
-fn holds_greeks(line: &[u8; 240], g: Greeks) -> bool {
-    let first = holds(line, 7, g.delta) & holds(line, 8, g.gamma) & holds(line, 9, g.theta);
-    let second = holds(line, 10, g.vega) & holds(line, 11, g.rho);
-    first & second & holds(line, 12, g.vanna) & holds(line, 13, g.volga)
+fn holds_greeks(line: &[u8; 256], g: Greeks) -> bool {
+    let first = holds(line, 8, g.delta) & holds(line, 9, g.gamma) & holds(line, 10, g.theta);
+    let second = holds(line, 11, g.vega) & holds(line, 12, g.rho);
+    first & second & holds(line, 13, g.vanna) & holds(line, 14, g.volga)
 }
 
 fn no_greeks() -> Greeks {
@@ -201,22 +202,22 @@ fn no_greeks() -> Greeks {
     }
 }
 
-fn judge_greeks(line: &[u8; 240]) -> bool {
-    let answer = greeks::bsm_greeks(option(line, 1, float(line, 5)));
+fn judge_greeks(line: &[u8; 256]) -> bool {
+    let answer = greeks::bsm_greeks(option(line, 1, float(line, 6)));
     match answer {
-        Sensitivities::Found { greeks } => (word(line, 6) == 0) & holds_greeks(line, greeks),
-        Sensitivities::Refused { number } => (word(line, 6) == number)
+        Sensitivities::Found { greeks } => (word(line, 7) == 0) & holds_greeks(line, greeks),
+        Sensitivities::Refused { number } => (word(line, 7) == number)
             & holds_greeks(line, no_greeks()),
     }
 }
 
 // A number, four values and the evaluations.
-fn holds_answer(line: &[u8; 240], number: u64, x: Solution) -> bool {
-    let values = holds(line, 7, x.volatility)
-        & holds(line, 8, x.error)
-        & holds(line, 9, x.c)
-        & holds(line, 10, x.c_error);
-    values & (word(line, 6) == number) & (word(line, 11) == x.evaluations)
+fn holds_answer(line: &[u8; 256], number: u64, x: Solution) -> bool {
+    let values = holds(line, 8, x.volatility)
+        & holds(line, 9, x.error)
+        & holds(line, 10, x.c)
+        & holds(line, 11, x.c_error);
+    values & (word(line, 7) == number) & (word(line, 12) == x.evaluations)
 }
 
 // The values beside a number.
@@ -230,7 +231,7 @@ fn zeros(evaluations: u64) -> Solution {
     }
 }
 
-fn judge_solve(line: &[u8; 240]) -> bool {
+fn judge_solve(line: &[u8; 256]) -> bool {
     let answer = greeks::implied_volatility(float(line, 1), option(line, 2, 0.0));
     match answer {
         Implied::Found { solution } => holds_answer(line, 0, solution),
@@ -241,7 +242,7 @@ fn judge_solve(line: &[u8; 240]) -> bool {
     }
 }
 
-fn judge_option(kind: usize, line: &[u8; 240]) -> bool {
+fn judge_option(kind: usize, line: &[u8; 256]) -> bool {
     if kind < 6 {
         return judge_function(kind, line);
     }
@@ -277,7 +278,7 @@ fn verdict(right: bool) -> u64 {
 
 // A quote goes to the end of the columns.
 fn quote(
-    line: &[u8; 240],
+    line: &[u8; 256],
     at: usize,
     strikes: &mut [f64; 1024],
     expiries: &mut [f64; 1024],
@@ -292,7 +293,7 @@ fn quote(
     at + 1
 }
 
-fn judge_build(line: &[u8; 240], built: Built) -> bool {
+fn judge_build(line: &[u8; 256], built: Built) -> bool {
     match built {
         Built::Surface { strikes, expiries } => (word(line, 0) == 0)
             & (word(line, 1) == strikes as u64)
@@ -320,7 +321,7 @@ fn built_state(built: Built) -> State {
 }
 
 // Whether an axis holds the line's value at the line's index.
-fn judge_axis(line: &[u8; 240], axis: &[f64]) -> bool {
+fn judge_axis(line: &[u8; 256], axis: &[f64]) -> bool {
     let at = word(line, 0) as usize;
     if at >= axis.len() {
         return false;
@@ -328,7 +329,7 @@ fn judge_axis(line: &[u8; 240], axis: &[f64]) -> bool {
     holds(line, 1, axis[at])
 }
 
-fn judge_cell(line: &[u8; 240], grid: &[f64; 2048], counts: &[u64; 2048]) -> bool {
+fn judge_cell(line: &[u8; 256], grid: &[f64; 2048], counts: &[u64; 2048]) -> bool {
     let at = word(line, 0) as usize;
     if at >= 2048 {
         return false;
@@ -337,7 +338,7 @@ fn judge_cell(line: &[u8; 240], grid: &[f64; 2048], counts: &[u64; 2048]) -> boo
 }
 
 // A reading's number and value, from an index on.
-fn judge_reading(line: &[u8; 240], from: usize, reading: Reading) -> bool
+fn judge_reading(line: &[u8; 256], from: usize, reading: Reading) -> bool
     requires { from < 3 }
 {
     match reading {
@@ -348,7 +349,7 @@ fn judge_reading(line: &[u8; 240], from: usize, reading: Reading) -> bool
 }
 
 fn judge_read(
-    line: &[u8; 240],
+    line: &[u8; 256],
     state: State,
     strike_axis: &[f64; 64],
     expiry_axis: &[f64; 32],
@@ -367,7 +368,7 @@ fn judge_read(
 }
 
 fn judge_middle(
-    line: &[u8; 240],
+    line: &[u8; 256],
     state: State,
     strike_axis: &[f64; 64],
     expiry_axis: &[f64; 32],
@@ -387,7 +388,7 @@ fn judge_middle(
 // What a line of a surface asks of the last build.
 fn judge_surface(
     kind: usize,
-    line: &[u8; 240],
+    line: &[u8; 256],
     state: State,
     strike_axis: &[f64; 64],
     expiry_axis: &[f64; 32],
@@ -411,14 +412,14 @@ fn judge_surface(
 
 // ---- the gap filler
 
-fn gap(line: &[u8; 240], cells: &mut [f64; 2048]) {
+fn gap(line: &[u8; 256], cells: &mut [f64; 2048]) {
     let at = word(line, 0) as usize;
     if at < 2048 {
         cells[at] = float(line, 1);
     }
 }
 
-fn judge_filling(line: &[u8; 240], filling: Filling) -> bool {
+fn judge_filling(line: &[u8; 256], filling: Filling) -> bool {
     match filling {
         Filling::Done => word(line, 2) == 0,
         Filling::Refused { number } => word(line, 2) == number,
@@ -426,7 +427,7 @@ fn judge_filling(line: &[u8; 240], filling: Filling) -> bool {
 }
 
 // A gap, a filling or a filled cell.
-fn judge_gaps(kind: usize, line: &[u8; 240], cells: &mut [f64; 2048]) -> u64 {
+fn judge_gaps(kind: usize, line: &[u8; 256], cells: &mut [f64; 2048]) -> u64 {
     if kind == 16 {
         gap(line, cells);
         return 1;
@@ -445,12 +446,12 @@ fn judge_gaps(kind: usize, line: &[u8; 240], cells: &mut [f64; 2048]) -> u64 {
 struct Line {
     kind: usize,
     head: [u8; 6],
-    words: [u8; 240],
+    words: [u8; 256],
 }
 
 fn read_line() -> Line {
     let mut head = [b' '; 6];
-    let mut words = [b' '; 240];
+    let mut words = [b' '; 256];
     let n = io::read_full(0, &mut head);
     if n == 0 {
         return Line {
@@ -475,7 +476,7 @@ fn read_line() -> Line {
 // One line: what it says is taken or judged.
 fn turn(
     kind: usize,
-    line: &[u8; 240],
+    line: &[u8; 256],
     state: State,
     strikes: &mut [f64; 1024],
     expiries: &mut [f64; 1024],
@@ -558,7 +559,7 @@ fn print_front(text: &[u8], n: usize) {
 }
 
 // Writes a line out with its number.
-fn report(number: u64, kind: usize, head: &[u8; 6], line: &[u8; 240]) {
+fn report(number: u64, kind: usize, head: &[u8; 6], line: &[u8; 256]) {
     io::write_all(STDOUT_FILENO, b"MISMATCH in line ");
     io::print_decimal(STDOUT_FILENO, number);
     io::write_all(STDOUT_FILENO, b": ");

@@ -15,7 +15,7 @@ fn is(name: &[u8; 6], n: usize, text: &[u8; 6], words: usize) -> bool
     first & last & (n == words)
 }
 
-fn offered(is_price: bool, is_put: bool, x: [u64; 6]) -> Request
+fn offered(is_price: bool, is_put: bool, x: [u64; 7]) -> Request
     ensures { result ≡ offered is_price is_put x }
 {
     let figures = [float_of(x[0]), float_of(x[1]), float_of(x[2])];
@@ -24,32 +24,33 @@ fn offered(is_price: bool, is_put: bool, x: [u64; 6]) -> Request
     }
 }
 
-fn option_of(x: [u64; 6]) -> OptionParams
+fn option_of(x: [u64; 7]) -> OptionParams
     ensures { result ≡ option x }
 {
-    OptionParams {
-        spot: float_of(x[1]),
-        strike: float_of(x[2]),
-        time_to_expiry: float_of(x[3]),
-        risk_free_rate: float_of(x[4]),
-        volatility: float_of(x[5]),
-        option_type: rows::kind_of(x[0] == 1),
-    }
+    rows::option_of(
+        x[0] == 1,
+        float_of(x[1]),
+        float_of(x[2]),
+        float_of(x[3]),
+        float_of(x[4]),
+        float_of(x[5]),
+        float_of(x[6]),
+    )
 }
 
 // Of a model's option, whose first word is 0 or 1.
-fn model_request(name: &[u8; 6], n: usize, x: [u64; 6]) -> Request
+fn model_request(name: &[u8; 6], n: usize, x: [u64; 7]) -> Request
     ensures { result ≡ model_request name.now n x }
 {
     if x[0] > 1 {
         return Request::Bad;
     }
-    if is(name, n, b"price ", 6) {
+    if is(name, n, b"price ", 7) {
         return Request::Price {
             option: option_of(x),
         };
     }
-    if is(name, n, b"greeks", 6) {
+    if is(name, n, b"greeks", 7) {
         return Request::Greeks {
             option: option_of(x),
         };
@@ -66,13 +67,14 @@ fn model_request(name: &[u8; 6], n: usize, x: [u64; 6]) -> Request
 }
 
 // Of the book and its surface, else of the model.
-fn book_request(name: &[u8; 6], n: usize, x: [u64; 6]) -> Request
+fn book_request(name: &[u8; 6], n: usize, x: [u64; 7]) -> Request
     ensures { result ≡ book_request name.now n x }
 {
-    if is(name, n, b"open  ", 2) {
+    if is(name, n, b"open  ", 3) {
         return Request::Open {
             spot: float_of(x[0]),
             rate: float_of(x[1]),
+            dividend_yield: float_of(x[2]),
         };
     }
     if is(name, n, b"build ", 0) {
@@ -93,7 +95,7 @@ fn book_request(name: &[u8; 6], n: usize, x: [u64; 6]) -> Request
 }
 
 // What a line of this name with n words asks, x being the words; past n they are not looked at.
-pub fn request_of(name: &[u8; 6], n: usize, x: [u64; 6]) -> Request
+pub fn request_of(name: &[u8; 6], n: usize, x: [u64; 7]) -> Request
     ensures { result ≡ request_of name.now n x }
 {
     if is(name, n, b"call  ", 3) {

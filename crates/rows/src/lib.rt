@@ -44,15 +44,17 @@ pub fn option_of(
     strike: f64,
     expiry: f64,
     rate: f64,
+    dividend_yield: f64,
     volatility: f64,
 ) -> OptionParams
-    ensures { result ≡ option_of put spot strike expiry rate volatility }
+    ensures { result ≡ option_of put spot strike expiry rate dividend_yield volatility }
 {
     OptionParams {
         spot,
         strike,
         time_to_expiry: expiry,
         risk_free_rate: rate,
+        dividend_yield,
         volatility,
         option_type: kind_of(put),
     }
@@ -102,12 +104,13 @@ pub fn shortest(a: usize, b: usize, c: usize, d: usize) -> usize
 }
 
 // The record that an opening's inputs and four totals stand for: kept, refused, heard, evaluations.
-pub fn book_of(spot: f64, rate: f64, totals: [u64; 4]) -> Book
-    ensures { result ≡ book_in (record { spot = spot; rate = rate }) totals }
+pub fn book_of(spot: f64, rate: f64, dividend_yield: f64, totals: [u64; 4]) -> Book
+    ensures { result ≡ book_in (record { spot = spot; rate = rate; dividend_yield = dividend_yield }) totals }
 {
     Book {
         spot,
         rate,
+        dividend_yield,
         kept: totals[0],
         refused: totals[1],
         heard: totals[2],

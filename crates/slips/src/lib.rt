@@ -100,6 +100,7 @@ fn at_volatility(p: OptionParams, v: f64) -> OptionParams
         strike: p.strike,
         time_to_expiry: p.time_to_expiry,
         risk_free_rate: p.risk_free_rate,
+        dividend_yield: p.dividend_yield,
         volatility: v,
         option_type: kind,
     }

@@ -218,18 +218,19 @@ fn say_money(r: AtTheMoney) {
     }
 }
 
-// A record: spot, rate, kept, refused, heard, evaluations.
+// A record: spot, rate, yield, kept, refused, heard, evaluations.
 fn record(input: &[u8], k: usize) -> Book
     requires { k ≤ 200000 }
 {
     rows::book_of(
         float(word(input, k)),
         float(word(input, k + 1)),
+        float(word(input, k + 2)),
         [
-            word(input, k + 2),
             word(input, k + 3),
             word(input, k + 4),
             word(input, k + 5),
+            word(input, k + 6),
         ],
     )
 }
@@ -249,9 +250,9 @@ fn moneys(
 {
     let mut i = 0;
     while i < n {
-        let at = k + 7 * i;
+        let at = k + 8 * i;
         let book = record(input, at);
-        let expiry = float(word(input, at + 6));
+        let expiry = float(word(input, at + 7));
         say_money(money::at_the_money(book, columns, lines, grid, strikes, expiries, expiry));
         i += 1;
     }

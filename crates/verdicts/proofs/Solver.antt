@@ -9,7 +9,7 @@ use denote.Enum.Declared.{tag_of}
 use borrow.Author.Tests.{not-false}
 use lib.Ieee.{Float}
 use Rattle.floats.specs.Operators.{decimal}
-use Rattle.limits.specs.Ranges.{is_price, is_spot, is_strike, is_expiry, is_rate}
+use Rattle.limits.specs.Ranges.{is_price, is_spot, is_strike, is_expiry, is_rate, is_yield}
 use Rattle.limits.specs.Checks.{first, none}
 use Rattle.limits.proofs.Checks.{Rows, passes}
 use Rattle.limits.specs.Outcome.{done}
@@ -31,10 +31,10 @@ use Rattle.ledger.proofs.Sound.{bounds_of}
 use Rattle.ledger.proofs.Ends.{run_ended}
 
 -- ---- no check holds
-in_ranges : (a b c d e : Bool) → a ≡ true → b ≡ true → c ≡ true → d ≡ true → e ≡ true
-    → first (not a) 5 (first (not b) 6 (first (not c) 7 (first (not d) 8 (first (not e) 9 none)))) ≡ none
+in_ranges : (a b c d e f : Bool) → a ≡ true → b ≡ true → c ≡ true → d ≡ true → e ≡ true → f ≡ true
+    → first (not a) 5 (first (not b) 6 (first (not c) 7 (first (not d) 8 (first (not e) 9 (first (not f) 28 none))))) ≡ none
 unfolding first
-in_ranges a b c d e p q r s t = simp (p, q, r, s, t)
+in_ranges a b c d e f p q r s t u = simp (p, q, r, s, t, u)
 
 record PricePass (o : Offer) (market : Float) : Type 0 where
   pub in_price : is_price market ≡ true
@@ -57,6 +57,7 @@ option_of b o kind v =
       strike = o.strike;
       time_to_expiry = o.expiry;
       risk_free_rate = b.rate;
+      dividend_yield = b.dividend_yield;
       volatility = v;
       option_type = kind;
     }
@@ -74,8 +75,8 @@ unfolding answer_to end_of implied implied_refusal option_refusal
 solved b o kind market v r p h n e =
     let w = price_pass o kind market p n in
     let s = bounds_of b h in
-    let z = in_ranges (is_price market) (is_spot b.spot) (is_strike o.strike) (is_expiry o.expiry) (is_rate b.rate) w.in_price s.spot
-    w.in_strike w.in_expiry s.rate in
+    let z = in_ranges (is_price market) (is_spot b.spot) (is_strike o.strike) (is_expiry o.expiry) (is_rate b.rate) (is_yield b.dividend_yield)
+    w.in_price s.spot w.in_strike w.in_expiry s.rate s.yield in
     let prices = prices_of bsm (opening_of b) o kind in
     let t : outcome_of_implied r ≡ end_of (run_with market prices).reply = ap end_of (rw z at e) in
     record { outcome = rw p t; ended = subst Ended (sym t) (run_ended market prices) }

@@ -44,7 +44,10 @@ pub fn is_broken(b: Book) -> bool
     if !limits::is_spot(b.spot) {
         return true;
     }
-    !limits::is_rate(b.rate)
+    if !limits::is_rate(b.rate) {
+        return true;
+    }
+    !limits::is_yield(b.dividend_yield)
 }
 
 // 5: a market price. A volatility has none.
@@ -112,6 +115,7 @@ fn kept(b: Book, evaluations: u64) -> Book
     Book {
         spot: b.spot,
         rate: b.rate,
+        dividend_yield: b.dividend_yield,
         kept: b.kept + 1,
         refused: b.refused,
         heard: b.heard + 1,
@@ -127,6 +131,7 @@ fn turned(b: Book, evaluations: u64) -> Book
     Book {
         spot: b.spot,
         rate: b.rate,
+        dividend_yield: b.dividend_yield,
         kept: b.kept,
         refused: b.refused + 1,
         heard: b.heard + 1,
@@ -195,6 +200,7 @@ fn answer(b: Book, o: Offer) -> Implied
                 strike: o.strike,
                 time_to_expiry: o.expiry,
                 risk_free_rate: b.rate,
+                dividend_yield: b.dividend_yield,
                 volatility: 0.0,
                 option_type: kind,
             },

@@ -26,9 +26,9 @@ word_of x = to_bits binary64 x
 abbrev pub float_of : ℕ → Float
 float_of n = of_bits binary64 n
 
-abbrev pub option_at : OptionType → Float → Float → Float → Float → Float → OptionParams
-option_at kind s k t r v =
-    record { spot = s; strike = k; time_to_expiry = t; risk_free_rate = r; volatility = v; option_type = kind }
+abbrev pub option_at : OptionType → Float → Float → Float → Float → Float → Float → OptionParams
+option_at kind s k t r q v =
+    record { spot = s; strike = k; time_to_expiry = t; risk_free_rate = r; dividend_yield = q; volatility = v; option_type = kind }
 
 pub record Laws : Type 0 where
   -- an offer: number, evaluations, volatility, error, point c, the error there
@@ -48,13 +48,13 @@ pub record Laws : Type 0 where
   pub not_built : (number : ℕ) → build_words (Built.Refused number) ≡ number ∷ 0 ∷ 0 ∷ []
   -- the prices at 0.000001 and at 10, in this order; 5 where no solver starts
   pub no_ends : (market : Float) (p : OptionParams) → is_price market ≡ false → ends_words market p ≡ 5 ∷ 0 ∷ 0 ∷ []
-  pub ends : (market s k t r v : Float) (kind : OptionType) → is_price market ≡ true → ends_words market (option_at kind s k t r v)
-      ≡ number_of (pricing (option_at kind s k t r (decimal 1 1000000)))
-      ∷ word_of (values_of (pricing (option_at kind s k t r (decimal 1 1000000))))
-      ∷ word_of (values_of (pricing (option_at kind s k t r (decimal 10 1))))
+  pub ends : (market s k t r q v : Float) (kind : OptionType) → is_price market ≡ true → ends_words market (option_at kind s k t r q v)
+      ≡ number_of (pricing (option_at kind s k t r q (decimal 1 1000000)))
+      ∷ word_of (values_of (pricing (option_at kind s k t r q (decimal 1 1000000))))
+      ∷ word_of (values_of (pricing (option_at kind s k t r q (decimal 10 1))))
       ∷ []
   -- what is asked of the book and its surface
-  pub asks_open : (s r : ℕ) (xs : List ℕ) → request_of (bytes "open  ") 2 (s ∷ r ∷ xs) ≡ Open (float_of s) (float_of r)
+  pub asks_open : (s r q : ℕ) (xs : List ℕ) → request_of (bytes "open  ") 3 (s ∷ r ∷ q ∷ xs) ≡ Open (float_of s) (float_of r) (float_of q)
   pub asks_call : (k t m : ℕ) (xs : List ℕ) → request_of (bytes "call  ") 3 (k ∷ t ∷ m ∷ xs) ≡ Offer (priced Call (float_of k) (float_of t) (float_of m))
   pub asks_put : (k t m : ℕ) (xs : List ℕ) → request_of (bytes "put   ") 3 (k ∷ t ∷ m ∷ xs) ≡ Offer (priced Put (float_of k) (float_of t) (float_of m))
   pub asks_vol : (k t v : ℕ) (xs : List ℕ) → request_of (bytes "vol   ") 3 (k ∷ t ∷ v ∷ xs) ≡ Offer (volatility (float_of k) (float_of t) (float_of v))
@@ -62,17 +62,17 @@ pub record Laws : Type 0 where
   pub asks_read : (k t : ℕ) (xs : List ℕ) → request_of (bytes "read  ") 2 (k ∷ t ∷ xs) ≡ Read (float_of k) (float_of t)
   pub asks_money : (t : ℕ) (xs : List ℕ) → request_of (bytes "money ") 1 (t ∷ xs) ≡ Money (float_of t)
   -- and of the model: the first word is 0 for a call, 1 for a put
-  pub asks_price : (s k t r v : ℕ) (xs : List ℕ) → request_of (bytes "price ") 6 (0 ∷ s ∷ k ∷ t ∷ r ∷ v ∷ xs)
-      ≡ Price (option_at Call (float_of s) (float_of k) (float_of t) (float_of r) (float_of v))
-  pub asks_greeks : (s k t r v : ℕ) (xs : List ℕ) → request_of (bytes "greeks") 6 (1 ∷ s ∷ k ∷ t ∷ r ∷ v ∷ xs)
-      ≡ Greeks (option_at Put (float_of s) (float_of k) (float_of t) (float_of r) (float_of v))
+  pub asks_price : (s k t r q v : ℕ) (xs : List ℕ) → request_of (bytes "price ") 7 (0 ∷ s ∷ k ∷ t ∷ r ∷ q ∷ v ∷ xs)
+      ≡ Price (option_at Call (float_of s) (float_of k) (float_of t) (float_of r) (float_of q) (float_of v))
+  pub asks_greeks : (s k t r q v : ℕ) (xs : List ℕ) → request_of (bytes "greeks") 7 (1 ∷ s ∷ k ∷ t ∷ r ∷ q ∷ v ∷ xs)
+      ≡ Greeks (option_at Put (float_of s) (float_of k) (float_of t) (float_of r) (float_of q) (float_of v))
   pub asks_ends : (k t m : ℕ) (xs : List ℕ) → request_of (bytes "ends  ") 4 (1 ∷ k ∷ t ∷ m ∷ xs) ≡ Ends Put (float_of k) (float_of t) (float_of m)
   -- a name with one other character, wherever it stands, asks nothing; nor does another kind than 0 or 1, or a word too few
-  pub misspelt : (xs : List ℕ) → (request_of (bytes "xreeks") 6 (1 ∷ xs) ≡ Bad)
-      × (request_of (bytes "gxeeks") 6 (1 ∷ xs) ≡ Bad)
-      × (request_of (bytes "grxeks") 6 (1 ∷ xs) ≡ Bad)
-      × (request_of (bytes "grexks") 6 (1 ∷ xs) ≡ Bad)
-      × (request_of (bytes "greexs") 6 (1 ∷ xs) ≡ Bad)
-      × (request_of (bytes "greekx") 6 (1 ∷ xs) ≡ Bad)
-  pub no_kind : (xs : List ℕ) → request_of (bytes "greeks") 6 (2 ∷ xs) ≡ Bad
-  pub too_few : (xs : List ℕ) → request_of (bytes "greeks") 5 (1 ∷ xs) ≡ Bad
+  pub misspelt : (xs : List ℕ) → (request_of (bytes "xreeks") 7 (1 ∷ xs) ≡ Bad)
+      × (request_of (bytes "gxeeks") 7 (1 ∷ xs) ≡ Bad)
+      × (request_of (bytes "grxeks") 7 (1 ∷ xs) ≡ Bad)
+      × (request_of (bytes "grexks") 7 (1 ∷ xs) ≡ Bad)
+      × (request_of (bytes "greexs") 7 (1 ∷ xs) ≡ Bad)
+      × (request_of (bytes "greekx") 7 (1 ∷ xs) ≡ Bad)
+  pub no_kind : (xs : List ℕ) → request_of (bytes "greeks") 7 (2 ∷ xs) ≡ Bad
+  pub too_few : (xs : List ℕ) → request_of (bytes "greeks") 6 (1 ∷ xs) ≡ Bad

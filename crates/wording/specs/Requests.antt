@@ -31,23 +31,23 @@ float x i = of_bits binary64 (get_or x i 0)
 abbrev pub offered : Bool → Bool → List ℕ → Request
 offered is_price isPut x = Offer (offer_of (is_price ∷ isPut ∷ []) (float x 0 ∷ float x 1 ∷ float x 2 ∷ []))
 
--- "price, greeks: put (0 or 1), spot, strike, expiry, rate, volatility"
+-- "price, greeks: put (0 or 1), spot, strike, expiry, rate, yield, volatility"
 abbrev pub option : List ℕ → OptionParams
-option x = option_of (eqb (get_or x 0 0) 1) (float x 1) (float x 2) (float x 3) (float x 4) (float x 5)
+option x = option_of (eqb (get_or x 0 0) 1) (float x 1) (float x 2) (float x 3) (float x 4) (float x 5) (float x 6)
 
 -- Of a model's option, whose first word is 0 or 1.
 unfoldable pub model_request : List ℕ → ℕ → List ℕ → Request
 model_request name n x =
     if ltb 1 (get_or x 0 0) then Bad else
-    (if called name n (bytes "price ") 6 then Price (option x) else
-    (if called name n (bytes "greeks") 6 then Greeks (option x) else
+    (if called name n (bytes "price ") 7 then Price (option x) else
+    (if called name n (bytes "greeks") 7 then Greeks (option x) else
     (if called name n (bytes "ends  ") 4 then Ends (kind_of (eqb (get_or x 0 0) 1)) (float x 1) (float x 2) (float x 3) else Bad)))
 
 -- Of the book and its surface.
 unfoldable pub book_request : List ℕ → ℕ → List ℕ → Request
 unfolding model_request
 book_request name n x =
-    if called name n (bytes "open  ") 2 then Open (float x 0) (float x 1) else
+    if called name n (bytes "open  ") 3 then Open (float x 0) (float x 1) (float x 2) else
     (if called name n (bytes "build ") 0 then Build else
     (if called name n (bytes "read  ") 2 then Read (float x 0) (float x 1) else
     (if called name n (bytes "money ") 1 then Money (float x 0) else model_request name n x)))

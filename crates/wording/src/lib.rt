@@ -1,6 +1,6 @@
 // The words of a line, on paper: what a request's name and words ask, and which figure stands at which place of an answer. A float is a word by its bits.
-// open: spot, rate. call, put, vol: strike, expiry, value. build. read: strike, expiry. money: expiry. price, greeks: put (0 or 1), spot, strike, expiry, rate,
-// volatility. ends: put, strike, expiry, price.
+// open: spot, rate, yield. call, put, vol: strike, expiry, value. build. read: strike, expiry. money: expiry. price, greeks: put (0 or 1), spot, strike,
+// expiry, rate, yield, volatility. ends: put, strike, expiry, price.
 use blackscholes::{OptionParams, OptionType};
 use ledger::Offer;
 
@@ -9,6 +9,7 @@ pub enum Request {
     Open {
         spot: f64,
         rate: f64,
+        dividend_yield: f64,
     },
     Offer {
         offer: Offer,

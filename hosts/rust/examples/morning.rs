@@ -1,5 +1,5 @@
 //! A morning's tray through the crate, with the desk's troubles in it: a blank strike, a missing price, two strikes a hair apart, a price
-//! that no volatility gives, a missing rate. ../c/example.c prints the same.
+//! that no volatility gives, a missing rate, a yield in percent. ../c/example.c prints the same.
 use kitesettee::{
     bsm_greeks, bsm_price, fill_gaps, implied_volatility, normal, quote_tray, AtTheMoney, Book, Offer, OptionParams,
     OptionType::{Call, Put},
@@ -60,11 +60,11 @@ fn describe(offer: &Offer) -> String {
     format!("{kind}, strike {}, expiry {}, value {}", number(strike), number(expiry), number(value))
 }
 
-fn tray() -> Result<(), Refusal> {
+fn offers() -> [Offer; 10] {
     let hair = 1.0 / (1u64 << 40) as f64;
     let price = |option_type, strike, expiry, price| Offer::Price { option_type, strike, expiry, price };
     let volatility = |strike, expiry, volatility| Offer::Volatility { strike, expiry, volatility };
-    let offers = [
+    [
         price(Call, 95.0, 0.5, 9.5),
         price(Call, 100.0, 0.5, 6.1),
         price(Put, 105.0, 0.5, 8.6),
@@ -75,8 +75,20 @@ fn tray() -> Result<(), Refusal> {
         volatility(105.0, 1.0, 12.0),
         price(Call, 105.0, 1.0, 8.2),
         price(Call, 100.0, 0.5, 150.0),
-    ];
-    let tray = quote_tray(100.0, 0.03, &offers)?;
+    ]
+}
+
+/// The tray on a book. Each of its figures is printed.
+fn tray(spot: f64, rate: f64, dividend_yield: f64) -> Result<(), Refusal> {
+    let offers = offers();
+    println!("a book on spot {}, rate {}, yield {}", number(spot), number(rate), number(dividend_yield));
+    let tray = match quote_tray(spot, rate, dividend_yield, &offers) {
+        Ok(tray) => tray,
+        Err(refusal) => {
+            println!("the book does not open: {refusal}");
+            return Ok(());
+        }
+    };
     for (i, (offer, said)) in offers.iter().zip(&tray.answers).enumerate() {
         println!("offer {}: {}: {}", i + 1, describe(offer), solved(*said));
     }
@@ -93,26 +105,41 @@ fn tray() -> Result<(), Refusal> {
             .collect();
         println!("expiry {}: {}", number(expiry), cells.join(", "));
     }
-    println!("at 102.5, 0.75: {}", answer(surface.interpolate(102.5, 0.75)));
-    println!("at 110, 0.75: {}", answer(surface.interpolate(110.0, 0.75)));
-    println!("at the middle strike, 0.75: {}", answer(surface.middle_strike(0.75)));
-    println!("at the money, 0.75: {}", at_the_money(surface.at_the_money(&book, 0.75)));
-    // Had the spot risen.
-    let risen = Book { spot: 104.0, ..book };
-    println!("at the money of a spot of 104, 0.75: {}", at_the_money(surface.at_the_money(&risen, 0.75)));
+    readings(&book, &surface);
     Ok(())
 }
 
-fn missing_rate() {
-    if let Err(refusal) = quote_tray(100.0, f64::NAN, &[]) {
-        println!("a tray without a rate: {refusal}");
-    }
+fn readings(book: &Book, surface: &Surface) {
+    println!("at 102.5, 0.75: {}", answer(surface.interpolate(102.5, 0.75)));
+    println!("at 110, 0.75: {}", answer(surface.interpolate(110.0, 0.75)));
+    println!("at the middle strike, 0.75: {}", answer(surface.middle_strike(0.75)));
+    println!("at the money, 0.75: {}", at_the_money(surface.at_the_money(book, 0.75)));
+    // Had the spot risen.
+    let risen = Book { spot: 104.0, ..*book };
+    println!("at the money of a spot of 104, 0.75: {}", at_the_money(surface.at_the_money(&risen, 0.75)));
 }
 
-fn option() -> Result<(), Refusal> {
-    let put = OptionParams { spot: 100.0, strike: 105.0, time_to_expiry: 0.5, risk_free_rate: 0.03, volatility: 0.25, option_type: Put };
+/// The same tray without a yield, with one, and on books that do not open: a missing rate, and a yield of 2 percent that was typed as 2.
+fn trays() -> Result<(), Refusal> {
+    tray(100.0, 0.03, 0.0)?;
+    tray(100.0, 0.03, 0.02)?;
+    tray(100.0, f64::NAN, 0.02)?;
+    tray(100.0, 0.03, 2.0)
+}
+
+/// A put: its price, its greeks, the volatility of that price; and a price that none gives.
+fn option(dividend_yield: f64) -> Result<(), Refusal> {
+    let put = OptionParams {
+        spot: 100.0,
+        strike: 105.0,
+        time_to_expiry: 0.5,
+        risk_free_rate: 0.03,
+        dividend_yield,
+        volatility: 0.25,
+        option_type: Put,
+    };
     let price = bsm_price(&put)?;
-    println!("a put at 105: {}", result(price));
+    println!("a put at 105, yield {}: {}", number(dividend_yield), result(price));
     let g = bsm_greeks(&put)?;
     let named = [
         ("delta", g.delta),
@@ -129,6 +156,20 @@ fn option() -> Result<(), Refusal> {
     println!("its volatility: {}", solved(implied_volatility(price, &put)));
     println!("a price of 150: {}", solved(implied_volatility(150.0, &OptionParams { option_type: Call, ..put })));
     Ok(())
+}
+
+/// On a futures contract at 60: its price is the spot, and the rate is the yield as well.
+fn on_futures() {
+    let put = OptionParams {
+        spot: 60.0,
+        strike: 60.0,
+        time_to_expiry: 4.0 / 12.0,
+        risk_free_rate: 0.09,
+        dividend_yield: 0.0,
+        volatility: 0.25,
+        option_type: Put,
+    };
+    println!("a put at 60 on futures: {}", answer(bsm_price(&put.on_futures())));
 }
 
 /// The surface of two quotes by itself, and the gap filler on a row of five.
@@ -157,9 +198,10 @@ fn normal_distribution() {
 }
 
 fn main() -> Result<(), Box<dyn Error>> {
-    tray()?;
-    missing_rate();
-    option()?;
+    trays()?;
+    option(0.0)?;
+    option(0.02)?;
+    on_futures();
     surface()?;
     normal_distribution();
     Ok(())

@@ -8,9 +8,27 @@ extern "C" {
     pub fn kite_pdf(x: f64) -> f64;
     pub fn kite_cdf(x: f64) -> f64;
 
-    pub fn kite_bsm_price(put: bool, spot: f64, strike: f64, expiry: f64, rate: f64, volatility: f64, price: &mut f64) -> u64;
+    pub fn kite_bsm_price(
+        put: bool,
+        spot: f64,
+        strike: f64,
+        expiry: f64,
+        rate: f64,
+        dividend_yield: f64,
+        volatility: f64,
+        price: &mut f64,
+    ) -> u64;
 
-    pub fn kite_bsm_greeks(put: bool, spot: f64, strike: f64, expiry: f64, rate: f64, volatility: f64, greeks: &mut [f64; 7]) -> u64;
+    pub fn kite_bsm_greeks(
+        put: bool,
+        spot: f64,
+        strike: f64,
+        expiry: f64,
+        rate: f64,
+        dividend_yield: f64,
+        volatility: f64,
+        greeks: &mut [f64; 7],
+    ) -> u64;
 
     pub fn kite_implied_volatility(
         put: bool,
@@ -19,6 +37,7 @@ extern "C" {
         strike: f64,
         expiry: f64,
         rate: f64,
+        dividend_yield: f64,
         values: &mut [f64; 4],
         evaluations: &mut u64,
     ) -> u64;
@@ -26,6 +45,7 @@ extern "C" {
     pub fn kite_quote_tray(
         spot: f64,
         rate: f64,
+        dividend_yield: f64,
         kinds: *const [bool; 2],
         kinds_len: usize,
         figures: *const [f64; 3],
@@ -103,6 +123,7 @@ extern "C" {
     pub fn kite_at_the_money(
         spot: f64,
         rate: f64,
+        dividend_yield: f64,
         totals: &[u64; 4],
         strike_axis: *const f64,
         strike_axis_len: usize,

@@ -47,18 +47,23 @@ fn answers(rows: &[([u64; 2], [f64; 4])], of: &Memory) -> (Vec<[u64; 2]>, Vec<[f
 
 /// Volatilities 0.25 at strikes 100, a blank, 110, 120 and 130, as many as there are rows of both.
 fn hear(spot: f64, kinds: usize, figures: usize, m: &mut Memory) -> u64 {
-    let kinds = vec![[false; 2]; kinds];
-    let figures = &[100.0, f64::NAN, 110.0, 120.0, 130.0].map(|strike| [strike, 0.5, 0.25])[..figures];
-    tray(spot, &kinds, figures, m)
+    heard_with(spot, 0.01, kinds, figures, m)
 }
 
-fn tray(spot: f64, kinds: &[[bool; 2]], figures: &[[f64; 3]], m: &mut Memory) -> u64 {
+fn heard_with(spot: f64, dividend_yield: f64, kinds: usize, figures: usize, m: &mut Memory) -> u64 {
+    let kinds = vec![[false; 2]; kinds];
+    let figures = &[100.0, f64::NAN, 110.0, 120.0, 130.0].map(|strike| [strike, 0.5, 0.25])[..figures];
+    tray(spot, dividend_yield, &kinds, figures, m)
+}
+
+fn tray(spot: f64, dividend_yield: f64, kinds: &[[bool; 2]], figures: &[[f64; 3]], m: &mut Memory) -> u64 {
     let [strikes, expiries, volatilities] = &mut m.columns;
     // SAFETY: pointers and lengths of slices, vectors and arrays that are each their own.
     unsafe {
         ffi::kite_quote_tray(
             spot,
             0.03,
+            dividend_yield,
             kinds.as_ptr(),
             kinds.len(),
             figures.as_ptr(),
@@ -89,10 +94,12 @@ fn tray(spot: f64, kinds: &[[bool; 2]], figures: &[[f64; 3]], m: &mut Memory) ->
 
 #[test]
 fn a_refused_opening_touches_nothing() {
-    let mut m = memory();
-    assert_eq!(hear(f64::NAN, 5, 5, &mut m), 6);
     let untouched = Memory { totals: [0; 4], lengths: [0; 2], ..memory() };
-    assert_eq!(m, untouched);
+    for (spot, dividend_yield, number) in [(f64::NAN, 0.01, 6), (f64::NAN, f64::NAN, 6), (100.0, f64::NAN, 28), (100.0, -1.5, 28)] {
+        let mut m = memory();
+        assert_eq!(heard_with(spot, dividend_yield, 5, 5, &mut m), number);
+        assert_eq!(m, untouched);
+    }
 }
 
 #[test]
@@ -139,15 +146,22 @@ fn a_price_is_answered_as_the_solver_answers_it() {
     let kinds = [[true, false], [true, true], [true, false], [false, true]];
     let figures = [[105.0, 0.5, 8.6], [105.0, 0.5, 8.6], [105.0, 0.5, 150.0], [105.0, 0.5, 0.25]];
     let mut m = memory();
-    assert_eq!(tray(100.0, &kinds, &figures, &mut m), 0);
-    let mut expected = Vec::new();
-    for ([_, put], [strike, expiry, market]) in kinds.into_iter().zip(figures).take(3) {
-        let (mut values, mut evaluations) = ([MARK; 4], COUNT_MARK);
-        // SAFETY: numbers, and two results of this function's own.
-        let number = unsafe { ffi::kite_implied_volatility(put, market, 100.0, strike, expiry, 0.03, &mut values, &mut evaluations) };
-        expected.push(([number, evaluations], values));
-    }
+    assert_eq!(tray(100.0, 0.04, &kinds, &figures, &mut m), 0);
+    let solved = |dividend_yield: f64| {
+        let mut answers = Vec::new();
+        for ([_, put], [strike, expiry, market]) in kinds.into_iter().zip(figures).take(3) {
+            let (mut values, mut made) = ([MARK; 4], COUNT_MARK);
+            // SAFETY: numbers, and two results of this function's own.
+            let number =
+                unsafe { ffi::kite_implied_volatility(put, market, 100.0, strike, expiry, 0.03, dividend_yield, &mut values, &mut made) };
+            answers.push(([number, made], values));
+        }
+        answers
+    };
+    let mut expected = solved(0.04);
     assert_ne!(expected[0], expected[1]);
+    // The yield that the book was opened on is the one that is solved with.
+    assert_ne!(expected[..2], solved(0.0)[..2]);
     assert_eq!(expected[2], ([12, 2], [0.0; 4]));
     let evaluations = expected.iter().map(|(numbers, _)| numbers[1]).sum();
     expected.push(KEPT);
@@ -232,7 +246,18 @@ fn a_read_of_any_memory() {
 }
 
 /// At the money of a spot, by a record whose kept count is given too.
-fn money(spot: f64, kept: u64, [ks, ts, grid]: [&[f64]; 3], strikes: u64, expiries: u64, expiry: f64) -> (u64, [f64; 2]) {
+fn money(spot: f64, kept: u64, lent: [&[f64]; 3], strikes: u64, expiries: u64, expiry: f64) -> (u64, [f64; 2]) {
+    money_of((spot, 0.01, kept), lent, strikes, expiries, expiry)
+}
+
+/// The same with the record's yield.
+fn money_of(
+    (spot, dividend_yield, kept): (f64, f64, u64),
+    [ks, ts, grid]: [&[f64]; 3],
+    strikes: u64,
+    expiries: u64,
+    expiry: f64,
+) -> (u64, [f64; 2]) {
     let mut values = [MARK; 2];
     let totals = [kept, 0, kept, 0];
     // SAFETY: pointers and lengths of slices that are only read, and two arrays of this function's own.
@@ -240,6 +265,7 @@ fn money(spot: f64, kept: u64, [ks, ts, grid]: [&[f64]; 3], strikes: u64, expiri
         ffi::kite_at_the_money(
             spot,
             0.03,
+            dividend_yield,
             &totals,
             ks.as_ptr(),
             ks.len(),
@@ -283,8 +309,8 @@ fn at_the_money_of_any_memory() {
         for (strikes, expiries) in [(65, 2), (3, 33), (u64::MAX, u64::MAX)] {
             assert_eq!(money(100.0, 9, short, strikes, expiries, 1.5), refused(2));
         }
-        for (spot, kept) in [(0.0, 9), (f64::NAN, 9), (100.0, 1025)] {
-            assert_eq!(money(spot, kept, short, 3, 2, 1.5), refused(2));
+        for record in [(0.0, 0.01, 9), (f64::NAN, 0.01, 9), (100.0, 0.01, 1025), (100.0, f64::NAN, 9), (100.0, -1.5, 9)] {
+            assert_eq!(money_of(record, short, 3, 2, 1.5), refused(2));
         }
     }
 }

@@ -1,7 +1,7 @@
 //! Option quotes that cannot be silently wrong.
 //!
-//! A safe wrapper of `libhost.a`, the library that the Rattle prover built: Black-Scholes price and greeks, implied volatility with its
-//! evidence, a whole morning's tray of quotes, and a volatility surface. Each call is proved to answer, on every input with not-a-number
+//! A safe wrapper of `libhost.a`, the library that the Rattle prover built: Black-Scholes price and greeks with a dividend yield, implied volatility
+//! with its evidence, a whole morning's tray of quotes, and a volatility surface. Each call is proved to answer, on every input with not-a-number
 //! and infinity included, the value that its definition fixes bit for bit, or one numbered [`Refusal`].
 //!
 //! ```
@@ -12,6 +12,7 @@
 //!     strike: 105.0,
 //!     time_to_expiry: 0.5,
 //!     risk_free_rate: 0.03,
+//!     dividend_yield: 0.01,
 //!     volatility: 0.25,
 //!     option_type: OptionType::Call,
 //! };
@@ -22,6 +23,10 @@
 //! // A blank strike is refused, and nothing else happens.
 //! let blank = OptionParams { strike: f64::NAN, ..option };
 //! assert_eq!(bsm_price(&blank), Err(Refusal::Strike));
+//!
+//! // An option on a futures contract: the futures price as spot, and the rate as the yield (Black 1976).
+//! let on_futures = bsm_price(&option.on_futures())?;
+//! assert!(on_futures < price);
 //! # Ok::<(), Refusal>(())
 //! ```
 //!

@@ -30,10 +30,39 @@ pub struct OptionParams {
     pub time_to_expiry: f64,
     /// The rate a year, -1 to 1.
     pub risk_free_rate: f64,
+    /// What holding the spot brings a year, -1 to 1, compounded as the rate is: of stored grain its convenience yield, of an index its dividends,
+    /// of a currency the foreign rate; 0.0 where there is none, and of a futures contract the rate ([`on_futures`](OptionParams::on_futures)).
+    pub dividend_yield: f64,
     /// The volatility a year, 0.000001 to 10 (0.2 for 20 %). [`implied_volatility`] does not read it.
     pub volatility: f64,
     /// Call or put.
     pub option_type: OptionType,
+}
+
+impl OptionParams {
+    /// The same option on a futures contract, of which `spot` is the price: the yield becomes the rate (Black 1976). For a tray of such options, pass
+    /// the rate to [`quote_tray`](crate::quote_tray) as the yield too.
+    ///
+    /// ```
+    /// # use kitesettee::{bsm_price, OptionParams, OptionType, Refusal};
+    /// let put = OptionParams {
+    ///     spot: 60.0,
+    ///     strike: 60.0,
+    ///     time_to_expiry: 4.0 / 12.0,
+    ///     risk_free_rate: 0.09,
+    ///     dividend_yield: 0.0,
+    ///     volatility: 0.25,
+    ///     option_type: OptionType::Put,
+    /// }
+    /// .on_futures();
+    /// assert_eq!(put.dividend_yield, 0.09);
+    /// assert!((bsm_price(&put)? - 3.35).abs() < 0.005); // Hull's example
+    /// # Ok::<(), Refusal>(())
+    /// ```
+    #[must_use]
+    pub const fn on_futures(self) -> OptionParams {
+        OptionParams { dividend_yield: self.risk_free_rate, ..self }
+    }
 }
 
 /// What the price does when one input moves; theta and rho a year.
@@ -47,7 +76,8 @@ pub struct Greeks {
     pub theta: f64,
     /// The price by the volatility.
     pub vega: f64,
-    /// The price by the rate.
+    /// The price by the rate alone, the yield held. (Where the yield moves with the rate, as for an option on a futures contract, the price moves by
+    /// minus the expiry times itself instead.)
     pub rho: f64,
     /// Delta by the volatility.
     pub vanna: f64,
@@ -109,10 +139,11 @@ impl From<Unsolved> for Refusal {
     }
 }
 
-/// The price by Black and Scholes. Refuses 6 to 10: a spot, strike, expiry, rate or volatility out of range.
+/// The price by Black and Scholes, with a dividend yield (Merton 1973). Refuses 6 to 9, 28 and 10: a spot, strike, expiry, rate, yield or volatility out
+/// of range.
 ///
 /// Far out of the money, where -d1 of a call or d2 of a put is above about 37.5, the normal distribution is subnormal, a multiple of
-/// 2^-1074: the price may come out below 0.0, by some (spot + discounted strike) times 5e-324. Above 38.6 it is 0.0.
+/// 2^-1074: the price may come out below 0.0, by some (discounted spot + discounted strike) times 5e-324. Above 38.6 it is 0.0.
 ///
 /// ```
 /// # use kitesettee::{bsm_price, OptionParams, OptionType, Refusal};
@@ -121,11 +152,14 @@ impl From<Unsolved> for Refusal {
 ///     strike: 40.0,
 ///     time_to_expiry: 0.5,
 ///     risk_free_rate: 0.1,
+///     dividend_yield: 0.0,
 ///     volatility: 0.2,
 ///     option_type: OptionType::Put,
 /// };
 /// assert!((bsm_price(&put)? - 0.81).abs() < 0.005); // Hull's example
 /// assert_eq!(bsm_price(&OptionParams { spot: f64::NAN, ..put }), Err(Refusal::Spot));
+/// // A yield typed in percent.
+/// assert_eq!(bsm_price(&OptionParams { dividend_yield: 3.0, ..put }), Err(Refusal::DividendYield));
 /// # Ok::<(), Refusal>(())
 /// ```
 pub fn bsm_price(params: &OptionParams) -> Result<f64, Refusal> {
@@ -138,6 +172,7 @@ pub fn bsm_price(params: &OptionParams) -> Result<f64, Refusal> {
             params.strike,
             params.time_to_expiry,
             params.risk_free_rate,
+            params.dividend_yield,
             params.volatility,
             &mut price,
         )
@@ -145,7 +180,7 @@ pub fn bsm_price(params: &OptionParams) -> Result<f64, Refusal> {
     check(number).map(|()| price)
 }
 
-/// The seven greeks. Refuses 6 to 10, as [`bsm_price`] does.
+/// The seven greeks. Refuses what [`bsm_price`] does.
 ///
 /// ```
 /// # use kitesettee::{bsm_greeks, OptionParams, OptionType, Refusal};
@@ -154,6 +189,7 @@ pub fn bsm_price(params: &OptionParams) -> Result<f64, Refusal> {
 ///     strike: 100.0,
 ///     time_to_expiry: 1.0,
 ///     risk_free_rate: 0.0,
+///     dividend_yield: 0.0,
 ///     volatility: 0.2,
 ///     option_type: OptionType::Call,
 /// };
@@ -171,6 +207,7 @@ pub fn bsm_greeks(params: &OptionParams) -> Result<Greeks, Refusal> {
             params.strike,
             params.time_to_expiry,
             params.risk_free_rate,
+            params.dividend_yield,
             params.volatility,
             &mut greeks,
         )
@@ -179,7 +216,7 @@ pub fn bsm_greeks(params: &OptionParams) -> Result<Greeks, Refusal> {
     check(number).map(|()| Greeks { delta, gamma, theta, vega, rho, vanna, volga })
 }
 
-/// The volatility that gives a market price, by Brent's method. Refuses 5 to 9 (the price and the inputs but the volatility) and, of the
+/// The volatility that gives a market price, by Brent's method. Refuses 5 to 9 and 28 (the price and the inputs but the volatility) and, of the
 /// solver, 12 and 13. (It checks 11 too, which never holds: this model's prices are finite.)
 ///
 /// ```
@@ -189,6 +226,7 @@ pub fn bsm_greeks(params: &OptionParams) -> Result<Greeks, Refusal> {
 ///     strike: 100.0,
 ///     time_to_expiry: 0.5,
 ///     risk_free_rate: 0.03,
+///     dividend_yield: 0.0,
 ///     volatility: 0.0,
 ///     option_type: OptionType::Call,
 /// };
@@ -209,6 +247,7 @@ pub fn implied_volatility(market_price: f64, params: &OptionParams) -> Result<So
             params.strike,
             params.time_to_expiry,
             params.risk_free_rate,
+            params.dividend_yield,
             &mut values,
             &mut evaluations,
         )

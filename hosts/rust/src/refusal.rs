@@ -2,8 +2,9 @@ use std::{error, fmt};
 
 /// Why a call was turned down, with document 01's number as discriminant.
 ///
-/// A call makes its checks in the order of the numbers and stops at the first that holds; the number is given in no other circumstance.
-/// 14 is not in use: no solved volatility is outside 0.000001 to 10.
+/// A call makes its checks in the order in which they stand here and stops at the first that holds; the number is given in no other circumstance.
+/// That is the order of the numbers, but that 28 comes right after 9; compared by `<`, refusals go by number. 14 is not in use: no solved
+/// volatility is outside 0.000001 to 10; and the numbers between 21 and 28 are not in use yet.
 ///
 /// ```
 /// use kitesettee::Refusal;
@@ -12,6 +13,7 @@ use std::{error, fmt};
 /// assert_eq!(Refusal::from_number(7), Some(Refusal::Strike));
 /// assert_eq!(Refusal::from_number(14), None);
 /// assert_eq!(Refusal::Rate.to_string(), "the rate is not in -1 to 1 (refusal 9)");
+/// assert_eq!(Refusal::DividendYield.number(), 28);
 /// ```
 #[derive(Debug, Clone, Copy, PartialEq, Eq, Hash, PartialOrd, Ord)]
 #[non_exhaustive]
@@ -35,6 +37,8 @@ pub enum Refusal {
     Expiry = 8,
     /// A rate is not in -1 to 1.
     Rate = 9,
+    /// A dividend yield is not in -1 to 1.
+    DividendYield = 28,
     /// A volatility is not in 0.000001 to 10.
     Volatility = 10,
     /// A price minus the market price is not finite in the solver. (This model's prices are finite, so that none of this crate's calls gives it.)
@@ -60,8 +64,8 @@ pub enum Refusal {
 }
 
 impl Refusal {
-    /// Every refusal, in the order of the numbers.
-    pub const ALL: [Refusal; 20] = [
+    /// Every refusal, in the order of the checks.
+    pub const ALL: [Refusal; 21] = [
         Refusal::ShortColumn,
         Refusal::OutOfBounds,
         Refusal::BookClosed,
@@ -71,6 +75,7 @@ impl Refusal {
         Refusal::Strike,
         Refusal::Expiry,
         Refusal::Rate,
+        Refusal::DividendYield,
         Refusal::Volatility,
         Refusal::SolverNotFinite,
         Refusal::NotBracketed,
@@ -106,6 +111,7 @@ impl Refusal {
             Refusal::Strike => "the strike is not in 0.000001 to 1,000,000,000",
             Refusal::Expiry => "the expiry is not in 0.000001 to 100 years",
             Refusal::Rate => "the rate is not in -1 to 1",
+            Refusal::DividendYield => "the dividend yield is not in -1 to 1",
             Refusal::Volatility => "the volatility is not in 0.000001 to 10",
             Refusal::SolverNotFinite => "a price minus the market price is not finite",
             Refusal::NotBracketed => "no volatility in 0.000001 to 10 gives the market price",

@@ -207,7 +207,7 @@ impl Surface {
     ///
     /// // Strikes bunched low: the middle one is nowhere near the spot.
     /// let offer = |strike, volatility| Offer::Volatility { strike, expiry: 0.5, volatility };
-    /// let tray = quote_tray(100.0, 0.03, &[offer(60.0, 0.5), offer(65.0, 0.375), offer(98.0, 0.25)])?;
+    /// let tray = quote_tray(100.0, 0.03, 0.0, &[offer(60.0, 0.5), offer(65.0, 0.375), offer(98.0, 0.25)])?;
     /// let book = tray.book();
     /// let surface = tray.surface?;
     /// assert_eq!(surface.middle_strike(0.5), Ok(0.375));
@@ -221,6 +221,7 @@ impl Surface {
             ffi::kite_at_the_money(
                 book.spot,
                 book.rate,
+                book.dividend_yield,
                 &book.totals.row(),
                 self.strike_axis.as_ptr(),
                 self.strike_axis.len(),

@@ -80,6 +80,8 @@ pub struct Book {
     pub spot: f64,
     /// The rate a year, -1 to 1.
     pub rate: f64,
+    /// The dividend yield a year, -1 to 1.
+    pub dividend_yield: f64,
     /// The counts; `evaluations` is at most 52 times `heard`.
     pub totals: Totals,
 }
@@ -91,6 +93,8 @@ pub struct Tray {
     pub spot: f64,
     /// The rate that it was opened on.
     pub rate: f64,
+    /// The dividend yield that it was opened on.
+    pub dividend_yield: f64,
     /// Of each offer, in order: its volatility with the evidence, or why it was refused and after how many evaluations. A price that 3 and 4 let
     /// through is answered as [`implied_volatility`](crate::implied_volatility) answers it; an accepted volatility is its own answer, with an
     /// error, a `c` and a `c_error` of 0.0 and 0 evaluations. [`volatilities`](Tray::volatilities) leaves the evidence out.
@@ -106,7 +110,7 @@ pub struct Tray {
 impl Tray {
     /// The book's record, for [`Surface::at_the_money`].
     pub fn book(&self) -> Book {
-        Book { spot: self.spot, rate: self.rate, totals: self.totals }
+        Book { spot: self.spot, rate: self.rate, dividend_yield: self.dividend_yield, totals: self.totals }
     }
 
     /// Of each offer, in order: the volatility that was accepted, or why it was not.
@@ -115,7 +119,7 @@ impl Tray {
     /// use kitesettee::{quote_tray, Offer, Refusal};
     ///
     /// let offer = |strike| Offer::Volatility { strike, expiry: 0.5, volatility: 0.25 };
-    /// let tray = quote_tray(100.0, 0.03, &[offer(95.0), offer(f64::NAN)])?;
+    /// let tray = quote_tray(100.0, 0.03, 0.0, &[offer(95.0), offer(f64::NAN)])?;
     /// assert!(tray.volatilities().eq([Ok(0.25), Err(Refusal::Strike)]));
     /// # Ok::<(), Refusal>(())
     /// ```
@@ -127,15 +131,17 @@ impl Tray {
     }
 }
 
-/// Hears a whole tray: opens a fresh book on a spot and a rate, offers it the list in order, and builds the surface of what it kept.
+/// Hears a whole tray: opens a fresh book on a spot, a rate and a dividend yield, offers it the list in order, and builds the surface of what it
+/// kept. Each price is solved with that yield ([`OptionParams::dividend_yield`](crate::OptionParams::dividend_yield) says what it is); of options on
+/// a futures contract the spot is the futures price, and the yield the rate.
 ///
-/// An offer that is refused changes nothing but the counts. Refuses the opening by 6 (spot) and 9 (rate): nothing is heard then.
+/// An offer that is refused changes nothing but the counts. Refuses the opening by 6 (spot), 9 (rate) and 28 (yield): nothing is heard then.
 ///
 /// ```
 /// use kitesettee::{quote_tray, Offer, OptionType, Refusal, Unsolved};
 ///
 /// let call = |strike, price| Offer::Price { option_type: OptionType::Call, strike, expiry: 0.5, price };
-/// let tray = quote_tray(100.0, 0.03, &[call(95.0, 9.5), call(f64::NAN, 9.5), call(105.0, 4.1), call(100.0, 150.0)])?;
+/// let tray = quote_tray(100.0, 0.03, 0.01, &[call(95.0, 9.5), call(f64::NAN, 9.5), call(105.0, 4.1), call(100.0, 150.0)])?;
 /// assert_eq!(tray.totals.kept, 2);
 ///
 /// // Each answer with its evidence: how far the price at the volatility is from the market's, and what that took.
@@ -147,11 +153,12 @@ impl Tray {
 /// assert_eq!(tray.quotes[0].volatility, first.volatility);
 /// assert_eq!(tray.surface?.strikes(), [95.0, 105.0]);
 ///
-/// // A missing rate opens no book.
-/// assert_eq!(quote_tray(100.0, f64::NAN, &[]), Err(Refusal::Rate));
+/// // A missing rate opens no book, nor does a yield typed in percent.
+/// assert_eq!(quote_tray(100.0, f64::NAN, 0.01, &[]), Err(Refusal::Rate));
+/// assert_eq!(quote_tray(100.0, 0.03, 2.0, &[]), Err(Refusal::DividendYield));
 /// # Ok::<(), Refusal>(())
 /// ```
-pub fn quote_tray(spot: f64, rate: f64, offers: &[Offer]) -> Result<Tray, Refusal> {
+pub fn quote_tray(spot: f64, rate: f64, dividend_yield: f64, offers: &[Offer]) -> Result<Tray, Refusal> {
     let kinds: Vec<[bool; 2]> = offers.iter().map(Offer::kind).collect();
     let figures: Vec<[f64; 3]> = offers.iter().map(Offer::figures).collect();
     let mut numbers = vec![[0; 2]; offers.len()];
@@ -168,6 +175,7 @@ pub fn quote_tray(spot: f64, rate: f64, offers: &[Offer]) -> Result<Tray, Refusa
         ffi::kite_quote_tray(
             spot,
             rate,
+            dividend_yield,
             kinds.as_ptr(),
             kinds.len(),
             figures.as_ptr(),
@@ -195,7 +203,7 @@ pub fn quote_tray(spot: f64, rate: f64, offers: &[Offer]) -> Result<Tray, Refusa
         )
     };
     let built = check(number);
-    if let Err(refusal @ (Refusal::Spot | Refusal::Rate)) = built {
+    if let Err(refusal @ (Refusal::Spot | Refusal::Rate | Refusal::DividendYield)) = built {
         return Err(refusal);
     }
     let totals = Totals::of(totals);
@@ -204,6 +212,7 @@ pub fn quote_tray(spot: f64, rate: f64, offers: &[Offer]) -> Result<Tray, Refusa
     Ok(Tray {
         spot,
         rate,
+        dividend_yield,
         answers: numbers.iter().zip(&evidence).map(|(&[number, evaluations], &values)| answered(number, values, evaluations)).collect(),
         quotes,
         totals,

@@ -1,5 +1,6 @@
 //! Answers by their bits. The expectations of functions, options, solver and surface are those of the Rust that document 01 names, with
-//! document 01's exp, ln, root and erfc (oracle/ in the repository); the others are document 01's own examples.
+//! document 01's exp, ln, root and erfc (oracle/ in the repository), and of greeks with a yield, which it lacks, those of oracle/src/haug.rs; the
+//! others are document 01's own examples.
 use kitesettee::{
     bsm_greeks, bsm_price, fill_gaps, implied_volatility, normal, quote_tray, Offer, OptionParams, OptionType, Quote, Refusal, Solved,
     Surface, Unsolved,
@@ -23,8 +24,13 @@ fn same(got: f64, bits: u64) {
     }
 }
 
+/// Without a yield.
 fn option(option_type: OptionType, spot: f64, strike: f64, time_to_expiry: f64, risk_free_rate: f64, volatility: f64) -> OptionParams {
-    OptionParams { spot, strike, time_to_expiry, risk_free_rate, volatility, option_type }
+    OptionParams { spot, strike, time_to_expiry, risk_free_rate, dividend_yield: 0.0, volatility, option_type }
+}
+
+fn yielding(dividend_yield: f64, option: OptionParams) -> OptionParams {
+    OptionParams { dividend_yield, ..option }
 }
 
 fn quote(strike: f64, expiry: f64, volatility: f64) -> Quote {
@@ -105,15 +111,7 @@ fn prices_and_greeks() {
         (
             option(PUT, 1200.0, 900.0, 0.00145, 0.05, 0.2),
             0x0000000A3EF8C0B1,
-            [
-                0,
-                0x000000AF81553C32,
-                0x803345991F0A67E8,
-                0x00011E4AF97097E2,
-                0x80000049D1953A3D,
-                0x80049F880441CF46,
-                0x009F2ED538353FB4,
-            ],
+            [0, 0x000000AF81553C32, 0x803345991F0A67E8, 0x00011E4AF97097E2, 0x80000049D1953A3D, 0x80049F880441CF46, 0x009F2ED538353FB4],
         ),
         (
             option(CALL, 42.0, 40.0, 0.5, 0.1, 0.2),
@@ -172,13 +170,143 @@ fn prices_and_greeks() {
         (option(PUT, 1e9, 0.000001, 0.000001, 1.0, 0.000001), 0, [0, 0, 0, 0, 0x8000000000000000, 0x8000000000000000, 0]),
     ];
     for (params, price, greeks) in table {
-        same(bsm_price(&params).unwrap(), price);
-        let g = bsm_greeks(&params).unwrap();
-        let got = [g.delta, g.gamma, g.theta, g.vega, g.rho, g.vanna, g.volga];
-        for (got, bits) in got.into_iter().zip(greeks) {
-            same(got, bits);
-        }
+        priced(&params, price, greeks);
+        // At yield -0.0 the same.
+        priced(&yielding(-0.0, params), price, greeks);
     }
+}
+
+fn figures(params: &OptionParams) -> [f64; 7] {
+    let g = bsm_greeks(params).unwrap();
+    [g.delta, g.gamma, g.theta, g.vega, g.rho, g.vanna, g.volga]
+}
+
+#[track_caller]
+fn priced(params: &OptionParams, price: u64, greeks: [u64; 7]) {
+    same(bsm_price(params).unwrap(), price);
+    for (got, bits) in figures(params).into_iter().zip(greeks) {
+        same(got, bits);
+    }
+}
+
+#[test]
+fn prices_and_greeks_with_a_yield() {
+    let table = [
+        (
+            yielding(0.02, option(CALL, 100.0, 105.0, 0.5, 0.03, 0.25)),
+            0x4014857086E2CCD0,
+            [
+                0x3FDBABCBEDA9857A,
+                0x3F9697388E1672A1,
+                0xC01CB0BADDDAAC53,
+                0x403B9398897266EE,
+                0x40330D8940D016AD,
+                0x3FE0C72343CF6C16,
+                0x4017A0A9BA398E2F,
+            ],
+        ),
+        (
+            yielding(0.02, option(PUT, 100.0, 105.0, 0.5, 0.03, 0.25)),
+            0x40231FC9420E9DC8,
+            [
+                0xBFE1D8970656DA41,
+                0x3F9697388E1672A1,
+                0xC01832C662218C6A,
+                0x403B9398897266EE,
+                0xC040552F2535AE3C,
+                0x3FE0C72343CF6C16,
+                0x4017A0A9BA398E2F,
+            ],
+        ),
+        // Hull: on futures, and on an index.
+        (
+            yielding(0.09, option(PUT, 60.0, 60.0, 4.0 / 12.0, 0.09, 0.25)),
+            0x400ACCA525DEAED8,
+            [
+                0xBFDD448372C8D68E,
+                0x3FA6D442A2DD372A,
+                0xC012DBD3EF702ABC,
+                0x402AC0BE16DB3CA4,
+                0xC024868A959014AA,
+                0x3FBC89534B9484F3,
+                0xBFD1D5D40F3CD317,
+            ],
+        ),
+        (
+            yielding(0.03, option(CALL, 930.0, 900.0, 2.0 / 12.0, 0.08, 0.2)),
+            0x4049EA9E540BF460,
+            [
+                0x3FE682667BCB8193,
+                0x3F72765B02D03EF2,
+                0xC05AA202034B6FFA,
+                0x40603E59BACDB021,
+                0x4059190592E76FE0,
+                0xBFE9587FAD7C6159,
+                0x40647787D2E2B874,
+            ],
+        ),
+        (
+            yielding(-0.04, option(PUT, 351.25, 400.0, 0.0833, -0.005, 0.4125)),
+            0x404981A95550BBB0,
+            [
+                0xBFEB126DD8FBD481,
+                0x3F77992063CEDE29,
+                0xC0492A0DAF70EAC4,
+                0x40386C95C1DCDEA7,
+                0xC03D00A9C738CD9E,
+                0x3FE50EC7C144CA1B,
+                0x4050CE234B715BEF,
+            ],
+        ),
+        // Far out of the money.
+        (
+            yielding(-0.02, option(PUT, 1200.0, 900.0, 0.00145, 0.05, 0.2)),
+            0x00000008DF0991AC,
+            [0, 0x00000097FCD0B9F7, 0x8030AFA30546113B, 0x0000F7EE0148F3BB, 0x8000003FEBAA4FB8, 0x8004010AB121E556, 0x009B028771B02470],
+        ),
+        // The ends of the ranges.
+        (
+            yielding(-1.0, option(CALL, 1e9, 0.000001, 100.0, 1.0, 10.0)),
+            0x4AD1F63601D1F6E2,
+            [0x48F3494A9B171BF5, 0, 0xCAD1F63601D1F6E2, 0, 0, 0, 0x8000000000000000],
+        ),
+        (
+            yielding(1.0, option(PUT, 0.000001, 1e9, 100.0, -1.0, 0.000001)),
+            0x4AD1F63601D1F6E2,
+            [0xB6EA8C1F14E2AF5D, 0, 0xCAD1F63601D1F6E2, 0, 0xCB3C10B462D811C1, 0, 0],
+        ),
+    ];
+    for (params, price, greeks) in table {
+        priced(&params, price, greeks);
+    }
+}
+
+/// Theta of an option that is worth nothing was -0.0 before S-6, and is 0.0 where the term of the yield is 0.0: of a call at 0.0, of a put at -0.0.
+#[test]
+fn theta_of_nothing() {
+    let (call, put) = (option(CALL, 1.0, 1e9, 0.5, 0.05, 0.2), option(PUT, 1e9, 1.0, 0.5, -0.05, 0.2));
+    let minus = (-0.0f64).to_bits();
+    for (params, bits) in [(call, 0), (yielding(-0.0, call), minus), (put, minus), (yielding(-0.0, put), 0)] {
+        same(bsm_price(&params).unwrap(), 0);
+        same(bsm_greeks(&params).unwrap().theta, bits);
+    }
+}
+
+/// Black 1976: the futures price as spot, the rate as the yield.
+#[test]
+fn on_futures() {
+    let call = option(CALL, 19.0, 19.0, 0.75, 0.1, 0.28);
+    let futures = call.on_futures();
+    assert_eq!(futures, yielding(0.1, call));
+    // Haug's example: call and put at the futures price cost the same.
+    let put = OptionParams { option_type: PUT, ..futures };
+    for params in [futures, put] {
+        assert!((bsm_price(&params).unwrap() - 1.7011).abs() < 0.00005);
+    }
+    // With the yield the rate, the price moves by minus the expiry times itself for each unit of both.
+    let at = |rate: f64| bsm_price(&option(CALL, 19.0, 19.0, 0.75, rate, 0.28).on_futures()).unwrap();
+    assert!(((at(0.1001) - at(0.0999)) / 0.0002 + 0.75 * at(0.1)).abs() < 1e-6);
+    assert!(bsm_greeks(&futures).unwrap().rho > 0.0);
 }
 
 #[test]
@@ -195,19 +323,47 @@ fn solved_volatilities() {
     ];
     for (kind, market, spot, strike, expiry, rate, volatility, error) in table {
         let params = option(kind, spot, strike, expiry, rate, f64::NAN);
-        let solved = implied_volatility(market, &params).unwrap();
-        same(solved.volatility, volatility);
-        same(solved.error, error);
-        // The evidence: c was tried too, and its price opposes.
-        let at_c = bsm_price(&OptionParams { volatility: solved.c, ..params }).unwrap();
-        same(solved.c_error, (at_c - market).to_bits());
-        let near = (solved.volatility - solved.c).abs() <= 0.00000101 && solved.error * solved.c_error <= 0.0;
-        assert!(solved.error.abs() < 0.000001 || near, "{solved:?}");
-        assert!((2..=51).contains(&solved.evaluations), "{solved:?}");
+        solved(&params, market, volatility, error);
+        // At yield -0.0 the same.
+        solved(&yielding(-0.0, params), market, volatility, error);
     }
     let call = option(CALL, 100.0, 100.0, 0.5, 0.03, 0.0);
     let unsolved = Unsolved { refusal: Refusal::NotBracketed, evaluations: 2 };
     assert_eq!(implied_volatility(150.0, &call), Err(unsolved));
+}
+
+#[track_caller]
+fn solved(params: &OptionParams, market: f64, volatility: u64, error: u64) {
+    let solved = implied_volatility(market, params).unwrap();
+    same(solved.volatility, volatility);
+    same(solved.error, error);
+    // The evidence: c was tried too, and its price opposes.
+    let at_c = bsm_price(&OptionParams { volatility: solved.c, ..*params }).unwrap();
+    same(solved.c_error, (at_c - market).to_bits());
+    let near = (solved.volatility - solved.c).abs() <= 0.00000101 && solved.error * solved.c_error <= 0.0;
+    assert!(solved.error.abs() < 0.000001 || near, "{solved:?}");
+    assert!((2..=51).contains(&solved.evaluations), "{solved:?}");
+}
+
+#[test]
+fn solved_volatilities_with_a_yield() {
+    // Kind, market price, spot, strike, expiry, rate, yield; the volatility and its error.
+    let table = [
+        (CALL, 9.5, 100.0, 95.0, 0.5, 0.03, 0.02, 0x3FCE57D845B49AB0, 0x3DCB620000000000),
+        (PUT, 8.6, 100.0, 105.0, 0.5, 0.03, 0.02, 0x3FCB83AA7C0DD6B3, 0xBED2BFA9D7600000),
+        (CALL, 8.2, 100.0, 105.0, 1.0, 0.03, 0.02, 0x3FD01FEA79C7A609, 0xBE3F14B700000000),
+        (CALL, 0.043, 1.6, 1.6, 0.3333, 0.08, 0.11, 0x3FC2105601FAC509, 0xBE89FDC608A80000),
+        (PUT, 3.35, 60.0, 60.0, 4.0 / 12.0, 0.09, 0.09, 0x3FD00017B6EBB2DF, 0xBDD3BFA800000000),
+        (PUT, 52.75, 351.25, 400.0, 0.0833, -0.005, -0.04, 0x3FDE9B47DA027657, 0x3DE8D00000000000),
+        (CALL, 99.0, 100.0, 100.0, 1.0, 0.0, -0.25, 0x40020204BA4B77A6, 0x3E36E11800000000),
+    ];
+    for (kind, market, spot, strike, expiry, rate, dividend_yield, volatility, error) in table {
+        solved(&yielding(dividend_yield, option(kind, spot, strike, expiry, rate, f64::NAN)), market, volatility, error);
+    }
+    // A call below the spot, but above the spot without its yield, which no volatility gives.
+    let call = option(CALL, 100.0, 95.0, 2.0, 0.05, 0.0);
+    assert!(implied_volatility(70.0, &call).is_ok());
+    assert_eq!(implied_volatility(70.0, &yielding(0.2, call)), Err(Unsolved { refusal: Refusal::NotBracketed, evaluations: 2 }));
 }
 
 #[test]
@@ -245,9 +401,9 @@ fn readings() {
 fn money(spot: f64, strikes: &[f64]) -> f64 {
     let offers: Vec<Offer> =
         (0..2 * strikes.len()).map(|i| volatility(strikes[i / 2], [0.5, 1.0][i % 2], 0.25 + i as f64 / 64.0)).collect();
-    let tray = quote_tray(spot, 0.03, &offers).unwrap();
+    let tray = quote_tray(spot, 0.03, 0.01, &offers).unwrap();
     let book = tray.book();
-    assert_eq!((book.spot, book.rate, book.totals), (spot, 0.03, tray.totals));
+    assert_eq!((book.spot, book.rate, book.dividend_yield, book.totals), (spot, 0.03, 0.01, tray.totals));
     let surface = tray.surface.unwrap();
     assert_eq!(surface.strikes(), strikes);
     let strike = surface.at_the_money(&book, 0.5).unwrap().strike;
@@ -287,25 +443,47 @@ fn the_lower_strike_on_a_tie() {
 }
 
 /// The same tray as in examples/morning.rs.
+fn morning() -> [Offer; 10] {
+    [
+        price(CALL, 95.0, 0.5, 9.5),
+        price(CALL, 100.0, 0.5, 6.1),
+        price(PUT, 105.0, 0.5, 8.6),
+        price(CALL, f64::NAN, 0.5, 4.0),
+        volatility(100.0, 1.0, 0.24),
+        price(PUT, 95.0, 1.0, f64::NAN),
+        volatility(100.0 + HAIR, 1.0, 0.26),
+        volatility(105.0, 1.0, 12.0),
+        price(CALL, 105.0, 1.0, 8.2),
+        price(CALL, 100.0, 0.5, 150.0),
+    ]
+}
+
+/// At yield -0.0 every figure is that of 0.0; with a yield each price is solved with it, and all else is as it was.
+#[test]
+fn a_tray_with_a_yield() {
+    let heard = |dividend_yield| quote_tray(100.0, 0.03, dividend_yield, &morning()).unwrap();
+    let without = heard(0.0);
+    assert_eq!(heard(-0.0), without);
+    let tray = heard(0.02);
+    assert_eq!((tray.dividend_yield, tray.book().dividend_yield), (0.02, 0.02));
+    assert_eq!((tray.totals.kept, tray.totals.refused, tray.totals.heard), (6, 4, 10));
+    for (offer, answer) in morning().into_iter().zip(&tray.answers) {
+        let Offer::Price { option_type, strike, expiry, price } = offer else { continue };
+        let params = yielding(0.02, option(option_type, 100.0, strike, expiry, 0.03, 0.0));
+        assert_eq!(implied_volatility(price, &params), *answer);
+    }
+    for (i, bits) in [(0, 0x3FCE57D845B49AB0), (1, 0x3FCAE6E26CA20222), (2, 0x3FCB83AA7C0DD6B3), (8, 0x3FD01FEA79C7A609)] {
+        same(tray.answers[i].unwrap().volatility, bits);
+    }
+    for i in [3, 4, 5, 6, 7, 9] {
+        assert_eq!(tray.answers[i], without.answers[i]);
+    }
+    assert_eq!(Surface::from_quotes(&tray.quotes), tray.surface);
+}
+
 #[test]
 fn a_tray() {
-    let tray = quote_tray(
-        100.0,
-        0.03,
-        &[
-            price(CALL, 95.0, 0.5, 9.5),
-            price(CALL, 100.0, 0.5, 6.1),
-            price(PUT, 105.0, 0.5, 8.6),
-            price(CALL, f64::NAN, 0.5, 4.0),
-            volatility(100.0, 1.0, 0.24),
-            price(PUT, 95.0, 1.0, f64::NAN),
-            volatility(100.0 + HAIR, 1.0, 0.26),
-            volatility(105.0, 1.0, 12.0),
-            price(CALL, 105.0, 1.0, 8.2),
-            price(CALL, 100.0, 0.5, 150.0),
-        ],
-    )
-    .unwrap();
+    let tray = quote_tray(100.0, 0.03, 0.0, &morning()).unwrap();
     let solved = [0x3FCAE64AA92860EE, 0x3FC859C37607AF9C, 0x3FCE1D980C732040, 0x3FCEB851EB851EB8, 0x3FD0A3D70A3D70A4, 0x3FCD0A3C63760DD6];
     let [a, b, c, d, e, f] = solved.map(|bits| Ok(f64::from_bits(bits)));
     let refused = |refusal| Err(refusal);
@@ -370,7 +548,7 @@ fn a_tray() {
 #[test]
 fn the_desks_lines() {
     let tray =
-        quote_tray(100.0, 0.0, &[volatility(90.0, 0.5, 0.25), volatility(110.0, 0.5, 0.5), volatility(f64::NAN, 0.5, 0.25)]).unwrap();
+        quote_tray(100.0, 0.0, 0.0, &[volatility(90.0, 0.5, 0.25), volatility(110.0, 0.5, 0.5), volatility(f64::NAN, 0.5, 0.25)]).unwrap();
     assert!(tray.volatilities().eq([Ok(0.25), Ok(0.5), Err(Refusal::Strike)]));
     assert_eq!(tray.surface.unwrap().interpolate(100.0, 0.5), Ok(0.375));
 }
@@ -430,7 +608,7 @@ fn an_empty_surface() {
     assert!(surface.strikes().is_empty() && surface.expiries().is_empty());
     assert_eq!(surface.interpolate(100.0, 1.0), Err(Refusal::NoSurface));
     assert_eq!(surface.middle_strike(1.0), Err(Refusal::NoSurface));
-    let tray = quote_tray(100.0, 0.0, &[]).unwrap();
+    let tray = quote_tray(100.0, 0.0, 0.0, &[]).unwrap();
     assert_eq!(surface.at_the_money(&tray.book(), 1.0), Err(Refusal::NoSurface));
     assert_eq!(tray.totals.heard, 0);
     assert_eq!(tray.surface, Ok(surface));

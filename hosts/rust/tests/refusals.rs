@@ -5,11 +5,18 @@ use kitesettee::{
 };
 use std::error::Error;
 
-const GOOD: OptionParams =
-    OptionParams { spot: 100.0, strike: 105.0, time_to_expiry: 0.5, risk_free_rate: 0.03, volatility: 0.25, option_type: OptionType::Put };
+const GOOD: OptionParams = OptionParams {
+    spot: 100.0,
+    strike: 105.0,
+    time_to_expiry: 0.5,
+    risk_free_rate: 0.03,
+    dividend_yield: 0.01,
+    volatility: 0.25,
+    option_type: OptionType::Put,
+};
 
 /// A record that a book may leave.
-const BOOK: Book = Book { spot: 100.0, rate: 0.03, totals: Totals { kept: 2, refused: 1, heard: 3, evaluations: 7 } };
+const BOOK: Book = Book { spot: 100.0, rate: 0.03, dividend_yield: 0.01, totals: Totals { kept: 2, refused: 1, heard: 3, evaluations: 7 } };
 
 /// Values in no range of document 01.
 const WILD: [f64; 5] = [f64::NAN, f64::INFINITY, f64::NEG_INFINITY, -1.0000000000000002, 1e10];
@@ -25,13 +32,14 @@ fn after(x: f64) -> f64 {
 
 type Set = fn(&mut OptionParams, f64);
 
-/// A field, its refusal, and the ends of its range.
-fn fields() -> [(Set, Refusal, f64, f64); 5] {
+/// A field, its refusal, and the ends of its range, in the order of the checks.
+fn fields() -> [(Set, Refusal, f64, f64); 6] {
     [
         (|p, x| p.spot = x, Refusal::Spot, 0.000001, 1e9),
         (|p, x| p.strike = x, Refusal::Strike, 0.000001, 1e9),
         (|p, x| p.time_to_expiry = x, Refusal::Expiry, 0.000001, 100.0),
         (|p, x| p.risk_free_rate = x, Refusal::Rate, -1.0, 1.0),
+        (|p, x| p.dividend_yield = x, Refusal::DividendYield, -1.0, 1.0),
         (|p, x| p.volatility = x, Refusal::Volatility, 0.000001, 10.0),
     ]
 }
@@ -63,7 +71,7 @@ fn an_option_out_of_range() {
 /// What is shown of an error tells what was refused, once, with its number.
 #[test]
 fn the_words_of_a_refusal() {
-    for (set, refusal, ..) in fields().into_iter().take(4) {
+    for (set, refusal, ..) in fields().into_iter().take(5) {
         let mut p = GOOD;
         set(&mut p, f64::NAN);
         let unsolved = implied_volatility(9.0, &p).unwrap_err();
@@ -76,7 +84,7 @@ fn the_words_of_a_refusal() {
     assert_eq!(implied_volatility(0.0, &GOOD).unwrap_err().to_string(), "the market price is not finite or not above 0 (refusal 5)");
     let dear = implied_volatility(150.0, &GOOD).unwrap_err();
     assert_eq!(dear.to_string(), "no volatility in 0.000001 to 10 gives the market price (refusal 12), after 2 evaluations");
-    let tray = quote_tray(100.0, 0.03, &[Offer::Volatility { strike: f64::NAN, expiry: 1.0, volatility: 0.2 }]).unwrap();
+    let tray = quote_tray(100.0, 0.03, 0.01, &[Offer::Volatility { strike: f64::NAN, expiry: 1.0, volatility: 0.2 }]).unwrap();
     assert_eq!(tray.answers[0].unwrap_err().to_string(), shown);
     let one = Unsolved { refusal: Refusal::SolverNotFinite, evaluations: 1 };
     assert_eq!(one.to_string(), "a price minus the market price is not finite (refusal 11), after 1 evaluation");
@@ -105,9 +113,15 @@ fn the_first_check_that_holds() {
 fn an_opening_out_of_range() {
     let offers = [Offer::Volatility { strike: 100.0, expiry: 1.0, volatility: 0.2 }];
     for x in WILD {
-        assert_eq!(quote_tray(x, 0.03, &offers), Err(Refusal::Spot));
-        assert_eq!(quote_tray(100.0, x, &offers), Err(Refusal::Rate));
-        assert_eq!(quote_tray(x, x, &offers), Err(Refusal::Spot));
+        assert_eq!(quote_tray(x, 0.03, 0.01, &offers), Err(Refusal::Spot));
+        assert_eq!(quote_tray(100.0, x, 0.01, &offers), Err(Refusal::Rate));
+        assert_eq!(quote_tray(100.0, 0.03, x, &offers), Err(Refusal::DividendYield));
+        assert_eq!(quote_tray(x, x, x, &offers), Err(Refusal::Spot));
+        assert_eq!(quote_tray(100.0, x, x, &offers), Err(Refusal::Rate));
+    }
+    for dividend_yield in [-1.0, 1.0, 0.0, -0.0, f64::from_bits(1)] {
+        let tray = quote_tray(100.0, 0.03, dividend_yield, &offers).unwrap();
+        assert_eq!(tray.book().dividend_yield.to_bits(), dividend_yield.to_bits());
     }
 }
 
@@ -130,7 +144,7 @@ fn offers_out_of_range() {
         (volatility(100.0, 1.0, nan), Refusal::Volatility),
     ];
     let offers = table.map(|(offer, _)| offer);
-    let tray = quote_tray(100.0, 0.03, &offers).unwrap();
+    let tray = quote_tray(100.0, 0.03, 0.01, &offers).unwrap();
     // Only the price that no volatility gives reaches the solver, which prices both ends.
     let refused = |(_, refusal)| Err(Unsolved { refusal, evaluations: if refusal == Refusal::NotBracketed { 2 } else { 0 } });
     assert_eq!(tray.answers, table.map(refused));
@@ -142,7 +156,7 @@ fn offers_out_of_range() {
 #[test]
 fn a_full_book() {
     let offers = vec![Offer::Volatility { strike: 100.0, expiry: 1.0, volatility: 0.25 }; 1030];
-    let tray = quote_tray(100.0, 0.03, &offers).unwrap();
+    let tray = quote_tray(100.0, 0.03, 0.01, &offers).unwrap();
     assert!(tray.volatilities().take(1024).all(|a| a == Ok(0.25)));
     assert_eq!(tray.answers[1024..], [Err(Unsolved { refusal: Refusal::BookFull, evaluations: 0 }); 6]);
     assert_eq!((tray.totals.kept, tray.totals.refused, tray.totals.heard), (1024, 6, 1030));
@@ -152,7 +166,7 @@ fn a_full_book() {
 #[test]
 fn a_book_that_heard_60000() {
     let offers = vec![Offer::Volatility { strike: f64::NAN, expiry: 1.0, volatility: 0.25 }; 60002];
-    let tray = quote_tray(100.0, 0.03, &offers).unwrap();
+    let tray = quote_tray(100.0, 0.03, 0.01, &offers).unwrap();
     let refused = |refusal| Err(Unsolved { refusal, evaluations: 0 });
     assert_eq!(tray.answers[59999], refused(Refusal::Strike));
     assert_eq!(tray.answers[60000..], [refused(Refusal::BookClosed); 2]);
@@ -172,7 +186,7 @@ fn a_surface_too_large() {
     assert_eq!(Surface::from_quotes(&quotes(64, 33)), Err(Refusal::TooManyExpiries));
     let offers: Vec<Offer> =
         quotes(65, 1).iter().map(|q| Offer::Volatility { strike: q.strike, expiry: q.expiry, volatility: q.volatility }).collect();
-    let tray = quote_tray(100.0, 0.03, &offers).unwrap();
+    let tray = quote_tray(100.0, 0.03, 0.01, &offers).unwrap();
     assert_eq!(tray.surface, Err(Refusal::TooManyStrikes));
     assert_eq!(tray.totals.kept, 66);
     assert_eq!(tray.quotes, quotes(65, 1));
@@ -210,14 +224,15 @@ fn records() -> (Vec<Book>, Vec<Book>) {
     let of = |kept, refused, heard, evaluations| Book { totals: Totals { kept, refused, heard, evaluations }, ..BOOK };
     let spot = |spot| Book { spot, ..BOOK };
     let rate = |rate| Book { rate, ..BOOK };
+    let yielding = |dividend_yield| Book { dividend_yield, ..BOOK };
     let mut good =
         vec![BOOK, of(0, 0, 0, 0), of(1024, 0, 1024, 0), of(0, 60000, 60000, 0), of(1024, 58976, 60000, 3_120_000), of(1, 2, 3, 156)];
-    good.extend([spot(0.000001), spot(1e9), rate(-1.0), rate(1.0), rate(-0.0)]);
+    good.extend([spot(0.000001), spot(1e9), rate(-1.0), rate(1.0), rate(-0.0), yielding(-1.0), yielding(1.0), yielding(-0.0)]);
     let mut broken = vec![of(1025, 0, 1025, 0), of(2, 1, 2, 7), of(2, 1, 4, 7), of(0, 60001, 60001, 0), of(1, 2, 3, 157), of(0, 0, 0, 1)];
     // Sums that come out right only modulo 2^64.
     broken.extend([of(5, u64::MAX - 1, 3, 7), of(u64::MAX, 4, 3, 7)]);
-    broken.extend(WILD.into_iter().flat_map(|x| [spot(x), rate(x)]));
-    broken.extend([spot(0.0), spot(before(0.000001)), spot(after(1e9)), rate(after(1.0)), rate(-after(1.0))]);
+    broken.extend(WILD.into_iter().flat_map(|x| [spot(x), rate(x), yielding(x)]));
+    broken.extend([spot(0.0), spot(before(0.000001)), spot(after(1e9)), rate(after(1.0)), rate(-after(1.0)), yielding(after(1.0))]);
     (good, broken)
 }
 

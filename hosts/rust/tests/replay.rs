@@ -24,13 +24,14 @@ impl Words {
         [OptionType::Call, OptionType::Put][self.index(0)]
     }
 
-    /// The option whose spot, strike, expiry and rate start at a word.
+    /// The option whose spot, strike, expiry, rate and yield start at a word.
     fn option(&self, from: usize, volatility: f64) -> OptionParams {
         OptionParams {
             spot: self.float(from),
             strike: self.float(from + 1),
             time_to_expiry: self.float(from + 2),
             risk_free_rate: self.float(from + 3),
+            dividend_yield: self.float(from + 4),
             volatility,
             option_type: self.kind(),
         }
@@ -62,21 +63,21 @@ fn solved(answer: Result<Solved, Unsolved>) -> Vec<u64> {
     words
 }
 
-/// An implied volatility, and the same as a tray of one offer, whose opening takes the spot and the rate first.
+/// An implied volatility, and the same as a tray of one offer, whose opening takes the spot, the rate and the yield first.
 fn solve(words: &Words) -> Vec<u64> {
     let option = words.option(2, 0.0);
     let market = words.float(1);
     let answer = implied_volatility(market, &option);
     let got = solved(answer);
     let offer = Offer::Price { option_type: option.option_type, strike: option.strike, expiry: option.time_to_expiry, price: market };
-    match quote_tray(option.spot, option.risk_free_rate, &[offer]) {
+    match quote_tray(option.spot, option.risk_free_rate, option.dividend_yield, &[offer]) {
         Ok(tray) => {
             assert_eq!(tray.answers.iter().copied().map(solved).collect::<Vec<_>>(), std::slice::from_ref(&got));
             assert_eq!(tray.totals.evaluations, *got.last().unwrap());
         }
         Err(refusal) => {
-            assert!(matches!(refusal, Refusal::Spot | Refusal::Rate), "{refusal}");
-            // The price comes before both, the strike and the expiry before the rate.
+            assert!(matches!(refusal, Refusal::Spot | Refusal::Rate | Refusal::DividendYield), "{refusal}");
+            // The price comes before all three, the strike and the expiry before the rate and the yield; of these the numbers are in checking order.
             assert!(answer.is_err_and(|unsolved| unsolved.refusal <= refusal), "{answer:?}");
         }
     }
@@ -84,7 +85,7 @@ fn solve(words: &Words) -> Vec<u64> {
 }
 
 fn greeks(words: &Words) -> Vec<u64> {
-    let answer = bsm_greeks(&words.option(1, words.float(5)));
+    let answer = bsm_greeks(&words.option(1, words.float(6)));
     told(answer.map(|g| [g.delta, g.gamma, g.theta, g.vega, g.rho, g.vanna, g.volga]))
 }
 
@@ -116,9 +117,9 @@ impl Held {
             "erfc" => (vec![bits(normal::erfc(words.float(0)))], 1),
             "pdf" => (vec![bits(normal::pdf(words.float(0)))], 1),
             "cdf" => (vec![bits(normal::cdf(words.float(0)))], 1),
-            "price" => (told(bsm_price(&words.option(1, words.float(5))).map(|price| [price])), 6),
-            "greeks" => (greeks(words), 6),
-            "solve" => (solve(words), 6),
+            "price" => (told(bsm_price(&words.option(1, words.float(6))).map(|price| [price])), 7),
+            "greeks" => (greeks(words), 7),
+            "solve" => (solve(words), 7),
             "quote" => {
                 self.quotes.push(Quote { strike: words.float(0), expiry: words.float(1), volatility: words.float(2) });
                 return None;

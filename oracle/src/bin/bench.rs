@@ -2,13 +2,15 @@
 //! Rust once with our root, digit by digit, and once with the processor's; solving and building also apart. Same inputs, same driver, the sides taken in
 //! turn, another tray for each run, medians. Ends with the ratio that S-14 asks for, and fails where it is above 2.0.
 //!
+//! The trays have a yield of 0, as before S-6; one row more has a yield, where the Rust is its solver on the prices of `bsm_call` and `bsm_put`.
+//!
 //!     bench [runs]
 #[path = "../ours.rs"]
 mod ours;
 
 use oracle::questions::Asked;
 use oracle::random::Random;
-use oracle::{greeks, greeks_digits, greeks_noted, notes, questions, surface};
+use oracle::{carried, carried_digits, carried_noted, greeks, greeks_digits, greeks_noted, notes, questions, surface};
 use ours::Tray;
 use std::hint::black_box;
 use std::time::Instant;
@@ -46,25 +48,26 @@ fn median(mut xs: Vec<f64>) -> f64 {
 struct Morning {
     spot: f64,
     rate: f64,
+    dividend_yield: f64,
     kinds: Vec<[bool; 2]>,
     figures: Vec<[f64; 3]>,
 }
 
-fn morning(count: usize, seed: u64) -> Morning {
+fn morning(count: usize, seed: u64, dividend_yield: f64) -> Morning {
     let mut r = Random(seed);
     let (spot, rate) = (100.0, 0.03);
     let mut places: Vec<(usize, usize, bool)> = (0..40).flat_map(|k| (0..25).flat_map(move |t| [(k, t, false), (k, t, true)])).collect();
     r.shuffle(&mut places);
-    let mut m = Morning { spot, rate, kinds: Vec::new(), figures: Vec::new() };
+    let mut m = Morning { spot, rate, dividend_yield, kinds: Vec::new(), figures: Vec::new() };
     for (k, t, put) in places {
         let (strike, expiry) = (62.0 + 2.0 * k as f64, (t + 1) as f64 / 12.0);
         let volatility = 0.18 + 0.4 * (strike / spot - 1.0) * (strike / spot - 1.0) + r.uniform(0.0, 0.02);
-        let price = questions::price(&Asked { put, values: [spot, strike, expiry, rate, volatility] });
+        let price = questions::price(&Asked { put, values: [spot, strike, expiry, rate, dividend_yield, volatility] });
         let cents = (price * 100.0).round() / 100.0;
         // What is worth nothing, or no more than at once, has no volatility to find.
         let option_type = questions::kind(put);
-        let asked = greeks::OptionParams { spot, strike, time_to_expiry: expiry, risk_free_rate: rate, volatility: 0.0, option_type };
-        let found = greeks::implied_volatility(cents, &asked);
+        let asked = carried::OptionParams { spot, strike, time_to_expiry: expiry, risk_free_rate: rate, dividend_yield, volatility: 0.0, option_type };
+        let found = carried::implied_volatility(cents, &asked);
         if m.figures.len() < count && found.is_ok() {
             m.kinds.push([true, put]);
             m.figures.push([strike, expiry, cents]);
@@ -74,10 +77,9 @@ fn morning(count: usize, seed: u64) -> Morning {
     m
 }
 
-/// The Rust's driver, for each of its builds: the quotes solved, one after the other.
+/// The Rust's driver, for each of its builds: the quotes solved, one after the other; with the field of a yield where the build has one.
 macro_rules! solved {
-    ($greeks:ident, $m:expr) => {{
-        let m: &Morning = $m;
+    ($greeks:ident $(, $dividend_yield:ident)?) => {|m: &Morning| {
         let mut points = Vec::with_capacity(m.figures.len());
         for ([_, put], [strike, expiry, market]) in m.kinds.iter().zip(&m.figures) {
             let p = $greeks::OptionParams {
@@ -85,6 +87,7 @@ macro_rules! solved {
                 strike: *strike,
                 time_to_expiry: *expiry,
                 risk_free_rate: m.rate,
+                $($dividend_yield: m.$dividend_yield,)?
                 volatility: 0.0,
                 option_type: if *put { $greeks::OptionType::Put } else { $greeks::OptionType::Call },
             };
@@ -96,15 +99,33 @@ macro_rules! solved {
     }};
 }
 
+type Solved = fn(&Morning) -> Vec<surface::VolPoint>;
+
+/// The Rust's builds: with our root, with the processor's, and one that notes what it tries.
+struct Rust {
+    digits: Solved,
+    processor: Solved,
+    noted: Solved,
+}
+
+/// As the Rust stands, without a yield.
+const PLAIN: Rust = Rust { digits: solved!(greeks_digits), processor: solved!(greeks), noted: solved!(greeks_noted) };
+/// On the prices of `bsm_call` and `bsm_put`.
+const CARRIED: Rust = Rust {
+    digits: solved!(carried_digits, dividend_yield),
+    processor: solved!(carried, dividend_yield),
+    noted: solved!(carried_noted, dividend_yield),
+};
+
 fn quote(m: &Morning, t: &mut Tray) -> u64 {
-    ours::quote_tray(m.spot, m.rate, &m.kinds, &m.figures, t)
+    ours::quote_tray([m.spot, m.rate, m.dividend_yield], &m.kinds, &m.figures, t)
 }
 
 /// The evaluations that the Rust makes for a tray; ours made the same for each quote, and hands out the same evidence.
-fn evaluations(m: &Morning, t: &Tray) -> u64 {
+fn evaluations(m: &Morning, t: &Tray, rust: &Rust) -> u64 {
     let one = |i: usize| {
         notes::clear();
-        solved!(greeks_noted, &Morning { kinds: vec![m.kinds[i]], figures: vec![m.figures[i]], ..*m });
+        (rust.noted)(&Morning { kinds: vec![m.kinds[i]], figures: vec![m.figures[i]], ..*m });
         assert_eq!(t.numbers[i], [0, notes::evaluations()]);
         assert_eq!(t.evidence[i].map(f64::to_bits), notes::answer().unwrap().map(f64::to_bits));
         notes::evaluations()
@@ -113,14 +134,14 @@ fn evaluations(m: &Morning, t: &Tray) -> u64 {
 }
 
 /// Both give the same bits and make the same evaluations.
-fn agree(m: &Morning, t: &Tray, number: u64) -> u64 {
-    let evaluations = evaluations(m, t);
+fn agree(m: &Morning, t: &Tray, number: u64, rust: &Rust) -> u64 {
+    let evaluations = evaluations(m, t, rust);
     assert_eq!((number, t.totals[0], t.totals[3]), (0, m.figures.len() as u64, evaluations));
-    for points in [solved!(greeks_digits, m), solved!(greeks, m)] {
+    for points in [(rust.digits)(m), (rust.processor)(m)] {
         assert_eq!(points.len(), m.figures.len());
         assert!(points.iter().zip(&t.evidence).all(|(p, row)| p.implied_vol.to_bits() == row[0].to_bits()));
     }
-    let s = surface::VolSurface::from_points(solved!(greeks, m));
+    let s = surface::VolSurface::from_points((rust.processor)(m));
     for i in 0..t.buffers.lengths[1] as usize {
         for j in 0..t.buffers.lengths[0] as usize {
             let read = s.interpolate(t.buffers.strike_axis[j], t.buffers.expiry_axis[i]).unwrap();
@@ -149,32 +170,32 @@ impl Row {
     }
 }
 
-fn measure(count: usize, runs: usize) -> Row {
+fn measure(count: usize, runs: usize, dividend_yield: f64, rust: &Rust) -> Row {
     let mut t = Tray::new(count);
     let mut buffers = t.buffers.clone();
     let mut prices = 0;
     let mut sides: [(Vec<f64>, Vec<f64>); 6] = Default::default();
     for run in 0..runs {
         // Another tray for each run: the branches of one that comes again are guessed better than a desk's ever are.
-        let m = morning(count, 7 + run as u64);
+        let m = morning(count, 7 + run as u64, dividend_yield);
         let number = quote(&m, &mut t);
-        prices += agree(&m, &t, number);
-        let points = solved!(greeks_digits, &m);
+        prices += agree(&m, &t, number, rust);
+        let points = (rust.digits)(&m);
         let times = [
             timed(|| {
                 black_box(quote(black_box(&m), &mut t));
             }),
             timed(|| {
                 for ([_, put], [strike, expiry, market]) in m.kinds.iter().zip(&m.figures) {
-                    black_box(ours::implied(*put, [*market, m.spot, *strike, *expiry, m.rate]));
+                    black_box(ours::implied(*put, [*market, m.spot, *strike, *expiry, m.rate, m.dividend_yield]));
                 }
             }),
             timed(|| {
                 black_box(ours::build(&t.strikes, &t.expiries, &t.volatilities, count as u64, &mut buffers));
             }),
-            timed(|| drop(black_box(surface::VolSurface::from_points(solved!(greeks_digits, black_box(&m)))))),
+            timed(|| drop(black_box(surface::VolSurface::from_points((rust.digits)(black_box(&m)))))),
             timed(|| drop(black_box(surface::VolSurface::from_points(points)))),
-            timed(|| drop(black_box(surface::VolSurface::from_points(solved!(greeks, black_box(&m)))))),
+            timed(|| drop(black_box(surface::VolSurface::from_points((rust.processor)(black_box(&m)))))),
         ];
         for (side, (cpu, wall)) in sides.iter_mut().zip(times) {
             side.0.push(cpu);
@@ -205,8 +226,8 @@ fn one_call(runs: usize, mut call: impl FnMut(&mut Random)) -> f64 {
 }
 
 fn calls(runs: usize) -> [(&'static str, f64); 5] {
-    let option = |r: &mut Random| (r.flip(), [100.0, r.uniform(60.0, 140.0), r.uniform(0.05, 2.0), 0.03, r.uniform(0.1, 0.6)]);
-    let far = |r: &mut Random| (r.flip(), [100.0, r.uniform(118.0, 122.0), 0.25, 0.03, r.uniform(0.09, 0.11)]);
+    let option = |r: &mut Random| (r.flip(), [100.0, r.uniform(60.0, 140.0), r.uniform(0.05, 2.0), 0.03, 0.0, r.uniform(0.1, 0.6)]);
+    let far = |r: &mut Random| (r.flip(), [100.0, r.uniform(118.0, 122.0), 0.25, 0.03, 0.0, r.uniform(0.09, 0.11)]);
     let erfc = |r: &mut Random, from: f64, to: f64| {
         black_box(ours::function("erfc", r.uniform(from, to)));
     };
@@ -237,33 +258,37 @@ fn line(cells: [String; 10]) -> String {
     padded.join("  ")
 }
 
+fn print(count: usize, r: &Row) {
+    let ms = |x: (f64, f64)| format!("{:.3}", x.0);
+    let cells = [
+        count.to_string(),
+        r.prices.to_string(),
+        ms(r.tray),
+        ms(r.solving),
+        ms(r.building),
+        format!("{:.0}", r.solving.0 * 1e6 / r.prices as f64),
+        ms(r.digits),
+        ms(r.digits_building),
+        format!("{:.3}", r.ratio().0),
+        format!("{:.3}", r.tray.0 / r.processor.0),
+    ];
+    println!("{}", line(cells));
+}
+
 fn main() {
     let runs = std::env::args().nth(1).map_or(21, |a| a.parse().expect("a whole number"));
     println!("a tray of priced quotes solved and built, ours and the Rust with our root, medians of {runs} runs, milliseconds of processor time");
     println!("{}", line(HEAD.map(String::from)));
     let mut asked = (0.0, 0.0);
     for count in [100, 200, 400, 600, 800, 1000, 1024] {
-        let r = measure(count, runs);
-        let ms = |x: (f64, f64)| format!("{:.3}", x.0);
-        println!(
-            "{}",
-            line([
-                count.to_string(),
-                r.prices.to_string(),
-                ms(r.tray),
-                ms(r.solving),
-                ms(r.building),
-                format!("{:.0}", r.solving.0 * 1e6 / r.prices as f64),
-                ms(r.digits),
-                ms(r.digits_building),
-                format!("{:.3}", r.ratio().0),
-                format!("{:.3}", r.tray.0 / r.processor.0),
-            ])
-        );
+        let r = measure(count, runs, 0.0, &PLAIN);
+        print(count, &r);
         if count == 1000 {
             asked = r.ratio();
         }
     }
+    println!("the same with a yield of 0.02, the Rust on the prices of bsm_call and bsm_put:");
+    print(1000, &measure(1000, runs, 0.02, &CARRIED));
     println!("one call of ours, nanoseconds: {}", calls(runs).map(|(what, ns)| format!("{what} {ns:.0}")).join(", "));
     println!("1,024 strikes, no two the same: refused by 16 after {:.3} ms", distinct(runs));
     println!("S-14: 1,000 quotes, median of {runs} runs: {:.3} of the Rust's time with our exp, ln, root and erfc ({:.3} of wall time)", asked.0, asked.1);

@@ -2,16 +2,19 @@
 //! maps them. Where 01 turns a question down that the Rust answers otherwise, the class is counted, named by 01's check and what is wrong with the
 //! input, and shown with the smallest input found. Anything else that differs is printed and fails the command.
 //!
+//! The reference for prices is `bsm_call` and `bsm_put` (S-6), also under the solver, whose steps are the Rust's; for greeks with a yield it is oracle::haug.
+//! What is asked at yield 0 is held to the Rust's `bsm_price`, `bsm_greeks` and `implied_volatility` as they stand too: the bits that were.
+//!
 //!     compare [questions of each kind] [seed]
 #[path = "../ours.rs"]
 mod ours;
 
 use oracle::checks::{self, cause, Check};
 use oracle::greeks_noted::{bsm_greeks, bsm_price, implied_volatility, GreekError, OptionParams};
-use oracle::questions::{self, Asked, Family, Made, Offers, Quotes, Record, FAMILIES, FUNCTIONS, MARKET, OPTION};
+use oracle::questions::{self, Asked, Family, Made, Offers, Quotes, Record, Yields, FAMILIES, FUNCTIONS, MARKET, OPTION};
 use oracle::random::Random;
 use oracle::surface_noted::{VolPoint, VolSurface};
-use oracle::{greeks_fed, greeks_noted, normal, notes, reference};
+use oracle::{carried_noted, greeks_fed, greeks_noted, haug, normal, notes, reference};
 use ours::{Buffers, Tray};
 use std::collections::BTreeMap;
 use std::io::Write;
@@ -39,16 +42,20 @@ fn differs(check: u64, cause: impl Into<String>, rust: &'static str, answer: imp
 fn reason(check: u64, cause: &str) -> Option<&'static str> {
     let blank = cause.ends_with("not-a-number");
     Some(match check {
+        0 if cause.starts_with("theta") => "S-6 gives theta a term for the yield, which is 0.0 or -0.0 at yield 0: -0.0 and it make 0.0; the Rust's has none",
         1 | 15 => "lent memory is ours: the Rust allocates its own",
         2 if cause.starts_with("record") => "01's bounds of a book's record, which S-2 has a reading at the money take; the Rust has no book",
         2 if cause.starts_with("more than") => "01's largest surface; the Rust's has no limit",
         2 if blank => "01's ranges of kept quotes, which no not-a-number passes; the Rust builds from any numbers",
         2 => "01's ranges of kept quotes; the Rust builds from any numbers",
         5 => "01 asks for a finite price; the Rust's guard is `market_price <= 0.0`",
-        6..=8 | 10 if blank => "01's range, which no not-a-number passes; the Rust's guard is `<= 0.0`, which it passes",
-        6..=8 | 10 => "01's range; the Rust asks only for more than 0",
+        6..=8 | 10 if blank => "01's range, which no not-a-number passes; the Rust's guard is `<= 0.0`, which it passes, or there is none",
+        6..=8 | 10 if cause == "not above 0" => "01's range; `bsm_call` and `bsm_put` take any number, and an expiry not above 0 for the end",
+        6..=8 | 10 => "01's range; the Rust asks only for more than 0, or for nothing",
         9 if blank => "01's range, which no not-a-number passes; the Rust takes any rate",
         9 => "01's range; the Rust takes any rate",
+        28 if blank => "02's range, which no not-a-number passes; the Rust takes any yield, or knows none",
+        28 => "02's range; the Rust takes any yield, or knows none",
         11 => "01: a price minus the market price is not finite; the Rust goes on",
         16 => "01's axis of at most 64 strikes; the Rust's has no limit",
         17 => "01's axis of at most 32 expiries; the Rust's has no limit",
@@ -135,10 +142,39 @@ impl Question for One {
 
 /// An option's question with the names of its values and what they usually are.
 #[derive(Clone)]
-struct Named(Asked, [&'static str; 5], [f64; 5]);
+struct Named(Asked, [&'static str; 6], [f64; 6]);
 
-const USUAL_OPTION: [f64; 5] = [100.0, 100.0, 1.0, 0.0, 0.25];
-const USUAL_MARKET: [f64; 5] = [10.0, 100.0, 100.0, 1.0, 0.0];
+const USUAL_OPTION: [f64; 6] = [100.0, 100.0, 1.0, 0.0, 0.0, 0.25];
+const USUAL_MARKET: [f64; 6] = [10.0, 100.0, 100.0, 1.0, 0.0, 0.0];
+
+/// 0.0, and every fourth time -0.0.
+fn zero(asked: u64) -> f64 {
+    if asked % 4 == 3 { -0.0 } else { 0.0 }
+}
+
+impl Named {
+    fn option(asked: Asked) -> Self {
+        Named(asked, OPTION, USUAL_OPTION)
+    }
+    fn market(asked: Asked) -> Self {
+        Named(asked, MARKET, USUAL_MARKET)
+    }
+    /// Where the yield stands.
+    fn yield_at(&self) -> usize {
+        self.1.iter().position(|name| *name == "yield").unwrap()
+    }
+    fn is_at_zero(&self) -> bool {
+        self.0.values[self.yield_at()] == 0.0
+    }
+    /// With a yield of 0, where that is what is asked: of every fourth it is -0.0.
+    fn of(mut self, yields: Yields, asked: u64) -> Self {
+        if yields == Yields::Zero {
+            let at = self.yield_at();
+            self.0.values[at] = zero(asked);
+        }
+        self
+    }
+}
 
 impl Question for Named {
     fn smaller(&self) -> Vec<Self> {
@@ -148,7 +184,7 @@ impl Question for Named {
             q.0.put = false;
             out.push(q);
         }
-        for i in 0..5 {
+        for i in 0..6 {
             for x in simpler(self.0.values[i], self.2[i]) {
                 let mut q = self.clone();
                 q.0.values[i] = x;
@@ -158,7 +194,7 @@ impl Question for Named {
         out
     }
     fn shown(&self) -> String {
-        let values: Vec<String> = (0..5).map(|i| format!("{} {}", self.1[i], show(self.0.values[i]))).collect();
+        let values: Vec<String> = (0..6).map(|i| format!("{} {}", self.1[i], show(self.0.values[i]))).collect();
         format!("{}, {}", if self.0.put { "put" } else { "call" }, values.join(", "))
     }
 }
@@ -337,6 +373,7 @@ impl Question for Money {
         out.extend(simpler(self.expiry, 1.0).into_iter().map(|expiry| Money { expiry, ..self.clone() }));
         out.extend(simpler(self.record.spot, 100.0).into_iter().map(|spot| with(Record { spot, ..self.record })));
         out.extend(simpler(self.record.rate, 0.0).into_iter().map(|rate| with(Record { rate, ..self.record })));
+        out.extend(simpler(self.record.dividend_yield, 0.0).into_iter().map(|dividend_yield| with(Record { dividend_yield, ..self.record })));
         // By halves, since a count by ones would take long.
         let totals = self.record.totals;
         let mut fewer = vec![[0; 4], [0, 0, 0, totals[3]], totals.map(|n| n / 2)];
@@ -350,8 +387,9 @@ impl Question for Money {
     }
     fn shown(&self) -> String {
         let lent = if self.is_plain() { String::new() } else { format!("; buffers of {:?}, sizes claimed {:?}", self.lent, self.claimed) };
-        let Record { spot, rate, totals } = self.record;
-        format!("{}; spot {}, rate {}, totals {totals:?}, expiry {}{lent}", self.of.shown(), show(spot), show(rate), show(self.expiry))
+        let Record { spot, rate, dividend_yield, totals } = self.record;
+        let opening = format!("spot {}, rate {}, yield {}", show(spot), show(rate), show(dividend_yield));
+        format!("{}; {opening}, totals {totals:?}, expiry {}{lent}", self.of.shown(), show(self.expiry))
     }
 }
 
@@ -415,7 +453,8 @@ impl Question for Offers {
             format!("({what} {} {} {})", show(strike), show(expiry), show(value))
         };
         let offers: Vec<String> = (0..self.len().min(6)).map(offer).collect();
-        format!("spot {}, rate {}, {} offers: {}", show(self.spot), show(self.rate), self.len(), offers.join(" "))
+        let opening = format!("spot {}, rate {}, yield {}", show(self.spot), show(self.rate), show(self.dividend_yield));
+        format!("{opening}, {} offers: {}", self.len(), offers.join(" "))
     }
 }
 
@@ -439,9 +478,9 @@ fn function(q: &One) -> Verdict {
     }
 }
 
-fn params(q: &Asked, values: [f64; 5]) -> OptionParams {
-    let [spot, strike, time_to_expiry, risk_free_rate, volatility] = values;
-    let option_type = if q.put { greeks_noted::OptionType::Put } else { greeks_noted::OptionType::Call };
+/// The option as the Rust has it, which knows no yield.
+fn params(put: bool, [spot, strike, time_to_expiry, risk_free_rate, _, volatility]: [f64; 6]) -> OptionParams {
+    let option_type = if put { greeks_noted::OptionType::Put } else { greeks_noted::OptionType::Call };
     OptionParams { spot, strike, time_to_expiry, risk_free_rate, volatility, option_type }
 }
 
@@ -482,26 +521,72 @@ fn valued(check: Check, number: u64, got: &[f64], rust: Result<&[f64], &GreekErr
 }
 
 fn price(q: &Named) -> Verdict {
-    let [spot, strike, expiry, rate, volatility] = q.0.values;
-    let check = checks::option(spot, strike, expiry, rate, volatility);
     let (number, got) = ours::price(q.0.put, q.0.values);
-    let rust = bsm_price(&params(&q.0, q.0.values)).map(|p| [p]);
-    valued(check, number, &got, rust.as_ref().map(|p| &p[..]))
+    valued(checks::option(q.0.values), number, &got, Ok(&[questions::price(&q.0)]))
 }
 
+/// A verdict at yield 0: against the Rust with a yield of 0 first, then against the Rust that knows none. A question made smaller may have another yield.
+fn at_zero(q: &Named, with: impl Fn(&Named) -> Verdict, without: impl Fn(&Named) -> Verdict) -> Verdict {
+    if !q.is_at_zero() {
+        return Same("not at yield 0".to_string());
+    }
+    match with(q) {
+        Unlisted(what) => Unlisted(what),
+        _ => without(q),
+    }
+}
+
+fn price_at_zero(q: &Named) -> Verdict {
+    at_zero(q, price, |q| {
+        let (number, got) = ours::price(q.0.put, q.0.values);
+        let rust = bsm_price(&params(q.0.put, q.0.values)).map(|p| [p]);
+        valued(checks::option(q.0.values), number, &got, rust.as_ref().map(|p| &p[..]))
+    })
+}
+
+/// The Rust's greeks, without a yield.
+fn rust_greeks(q: &Named) -> Result<[f64; 7], GreekError> {
+    bsm_greeks(&params(q.0.put, q.0.values)).map(|g| [g.delta, g.gamma, g.theta, g.vega, g.rho, g.vanna, g.volga])
+}
+
+/// By the transcription with a yield; where a check holds, beside what the Rust answers, which knows none.
 fn greeks(q: &Named) -> Verdict {
-    let [spot, strike, expiry, rate, volatility] = q.0.values;
-    let check = checks::option(spot, strike, expiry, rate, volatility);
+    let check = checks::option(q.0.values);
     let (number, got) = ours::greeks(q.0.put, q.0.values);
-    let rust = bsm_greeks(&params(&q.0, q.0.values)).map(|g| [g.delta, g.gamma, g.theta, g.vega, g.rho, g.vanna, g.volga]);
-    valued(check, number, &got, rust.as_ref().map(|g| &g[..]))
+    if check.number == 0 {
+        return valued(check, number, &got, Ok(&haug::greeks(q.0.put, q.0.values)));
+    }
+    valued(check, number, &got, rust_greeks(q).as_ref().map(|g| &g[..]))
 }
 
-/// What the Rust's solve says in 01's terms: a number, four values, the evaluations.
-fn solved(put: bool, v: [f64; 5]) -> (Result<f64, GreekError>, u64, [f64; 4], u64) {
-    let [market, spot, strike, expiry, rate] = v;
-    notes::clear();
-    let rust = implied_volatility(market, &params(&Asked { put, values: v }, [spot, strike, expiry, rate, 0.0]));
+/// What alone differs at yield 0: theta was -0.0 and is 0.0, of a call at 0.0, which adds 0.0, and of a put at -0.0, which takes -0.0 off.
+fn plus_zero(q: &Named, got: &[f64; 7], was: &[f64; 7]) -> Option<&'static str> {
+    let mut but_theta = *was;
+    but_theta[2] = 0.0;
+    let of = match (q.0.put, q.0.values[4].is_sign_negative()) {
+        (false, false) => "theta of a call at yield 0.0",
+        (true, true) => "theta of a put at yield -0.0",
+        _ => return None,
+    };
+    (was[2].to_bits() == (-0.0f64).to_bits() && all_same(got, &but_theta)).then_some(of)
+}
+
+fn greeks_at_zero(q: &Named) -> Verdict {
+    at_zero(q, greeks, |q| {
+        let (number, got) = ours::greeks(q.0.put, q.0.values);
+        let rust = rust_greeks(q);
+        if let (0, Some(of)) = (number, rust.as_ref().ok().and_then(|was| plus_zero(q, &got, was))) {
+            return differs(0, of, "answers -0.0", "-0.0, ours 0.0");
+        }
+        valued(checks::option(q.0.values), number, &got, rust.as_ref().map(|g| &g[..]))
+    })
+}
+
+/// What a solve of the Rust's says in 01's terms: a number, four values, the evaluations.
+type Solve = (Result<f64, GreekError>, u64, [f64; 4], u64);
+
+/// Of a solve that has just been made.
+fn in_terms(rust: Result<f64, GreekError>) -> Solve {
     let made = notes::evaluations();
     let (number, values) = match &rust {
         Ok(_) => (0, notes::answer().unwrap()),
@@ -510,6 +595,24 @@ fn solved(put: bool, v: [f64; 5]) -> (Result<f64, GreekError>, u64, [f64; 4], u6
         Err(_) => (u64::MAX, [0.0; 4]),
     };
     (rust, number, values, made)
+}
+
+/// The Rust's solver on the prices of `bsm_call` and `bsm_put`.
+fn solved(put: bool, [market, spot, strike, time_to_expiry, risk_free_rate, dividend_yield]: [f64; 6]) -> Solve {
+    use carried_noted::{GreekError as Theirs, OptionParams, OptionType};
+    let option_type = if put { OptionType::Put } else { OptionType::Call };
+    notes::clear();
+    let p = OptionParams { spot, strike, time_to_expiry, risk_free_rate, dividend_yield, volatility: 0.0, option_type };
+    in_terms(carried_noted::implied_volatility(market, &p).map_err(|e| match e {
+        Theirs::NoConvergence => GreekError::NoConvergence,
+        Theirs::InvalidParams(m) => GreekError::InvalidParams(m),
+    }))
+}
+
+/// The Rust's solver as it stands, which knows no yield.
+fn solved_without(put: bool, [market, spot, strike, expiry, rate, _]: [f64; 6]) -> Solve {
+    notes::clear();
+    in_terms(implied_volatility(market, &params(put, [spot, strike, expiry, rate, 0.0, 0.0])))
 }
 
 /// What is wrong with an answer of ours beside the points that the Rust has just tried.
@@ -528,11 +631,10 @@ fn unsound(market: f64, number: u64, [volatility, error, c, c_error]: [f64; 4]) 
     None
 }
 
-fn implied(q: &Named) -> Verdict {
-    let [market, spot, strike, expiry, rate] = q.0.values;
-    let check = checks::implied(market, spot, strike, expiry, rate);
+fn implied_against(q: &Named, solve: fn(bool, [f64; 6]) -> Solve) -> Verdict {
+    let check = checks::implied(q.0.values);
     let (number, got, evaluations) = ours::implied(q.0.put, q.0.values);
-    let (rust, expected, values, made) = solved(q.0.put, q.0.values);
+    let (rust, expected, values, made) = solve(q.0.put, q.0.values);
     if check.number != 0 {
         let value = rust.map(|v| [v]);
         return turned_down(check, number, zeros(&got) && evaluations == 0, value.as_ref().map(|v| &v[..]));
@@ -540,10 +642,18 @@ fn implied(q: &Named) -> Verdict {
     if number != expected || !all_same(&got, &values) || evaluations != made {
         return Unlisted(format!("ours {number} {got:?} {evaluations}, the Rust {rust:?} {values:?} {made}"));
     }
-    match unsound(market, number, got) {
+    match unsound(q.0.values[0], number, got) {
         None => Same(if number == 0 { "values".to_string() } else { format!("refused by {number}") }),
         Some(what) => Unlisted(what),
     }
+}
+
+fn implied(q: &Named) -> Verdict {
+    implied_against(q, solved)
+}
+
+fn implied_at_zero(q: &Named) -> Verdict {
+    at_zero(q, implied, |q| implied_against(q, solved_without))
 }
 
 /// The solver alone: a market price, and the prices that it is fed.
@@ -897,7 +1007,8 @@ fn money(q: &Money) -> Verdict {
     let (number, got) = ours::at_the_money(&q.record, &b, q.expiry);
     let s = VolSurface::of(q.of.strikes.clone(), q.of.expiries.clone(), q.of.grid.clone());
     let rust = nearest(s.strikes(), q.record.spot).and_then(|k| Some([k, s.interpolate(k, q.expiry)?]));
-    let check = if let Some(cause) = checks::record_cause(q.record.spot, q.record.rate, q.record.totals) {
+    let Record { spot, rate, dividend_yield, totals } = q.record;
+    let check = if let Some(cause) = checks::record_cause(spot, rate, dividend_yield, totals) {
         (2, cause)
     } else if b.lengths[0] > 64 || b.lengths[1] > 32 {
         (2, "more than 64 strikes or 32 expiries".to_string())
@@ -957,11 +1068,23 @@ fn heard(o: &Offers, i: usize, full: bool, ours: Answer) -> (Answer, Option<Stri
     if number != 0 {
         (([number, 0], [0.0; 4]), None)
     } else if price {
-        let (_, number, values, made) = solved(put, [value, o.spot, strike, expiry, o.rate]);
-        (([number, made], values), unsound(value, ours.0[0], ours.1))
+        let asked = [value, o.spot, strike, expiry, o.rate, o.dividend_yield];
+        let (_, number, values, made) = solved(put, asked);
+        let wrong = unsound(value, ours.0[0], ours.1).or_else(|| changed(put, asked, (number, values, made)));
+        (([number, made], values), wrong)
     } else {
         (([0, 0], [value, 0.0, 0.0, 0.0]), None)
     }
+}
+
+/// What is wrong with a solve at yield 0 beside the Rust's solver as it stands: nothing.
+fn changed(put: bool, asked: [f64; 6], (number, values, made): (u64, [f64; 4], u64)) -> Option<String> {
+    if asked[5] != 0.0 {
+        return None;
+    }
+    let (_, before, were, took) = solved_without(put, asked);
+    let same = (number, made) == (before, took) && all_same(&values, &were);
+    (!same).then(|| format!("at yield 0 {number} {values:?} {made}, without a yield {before} {were:?} {took}"))
 }
 
 /// A whole tray: 01's book over the Rust's solver and surface. The Rust has no book, so there is no other answer to differ from.
@@ -971,8 +1094,8 @@ fn tray(o: &Offers) -> Verdict {
 }
 
 fn tray_verdict(o: &Offers, t: &mut Tray) -> Verdict {
-    let number = ours::quote_tray(o.spot, o.rate, &o.kinds, &o.figures, t);
-    let opening = if !checks::is_spot(o.spot) { 6 } else if !checks::is_rate(o.rate) { 9 } else { 0 };
+    let number = ours::quote_tray([o.spot, o.rate, o.dividend_yield], &o.kinds, &o.figures, t);
+    let opening = checks::opening(o.spot, o.rate, o.dividend_yield).number;
     if opening != 0 {
         let untouched = t.unanswered() && t.rest_untouched(0) && t.buffers.rest_untouched(0, 0);
         if number == opening && untouched && t.totals == [0; 4] && t.buffers.lengths == [0, 0] {
@@ -1091,63 +1214,95 @@ fn each_family(count: u64, mut f: impl FnMut(Family)) {
     }
 }
 
+type Kinds = Vec<(String, Kind)>;
+
 fn main() {
     let mut args = std::env::args().skip(1).map(|a| a.parse::<u64>().expect("a whole number"));
     let count = args.next().unwrap_or(1_000_000);
     let seed = args.next().unwrap_or(20_260_101);
     set_hook(Box::new(|_| {}));
     println!("{count} questions of each kind at least, seed {seed}");
-    let mut kinds: Vec<(String, Kind)> = Vec::new();
+    let mut kinds: Kinds = Vec::new();
     let random = |kind: u64| Random(seed.wrapping_mul(1000).wrapping_add(kind));
-
     for (i, name) in FUNCTIONS.into_iter().enumerate() {
-        let (mut r, mut k) = (random(i as u64), Kind::default());
-        each_family(count, |family| {
-            let q = One(i, questions::argument(&mut r, family, name));
-            k.ask(function(&q), || q.clone(), function);
-        });
-        k.print(name);
-        kinds.push((name.to_string(), k));
+        functions(count, i, name, random(i as u64), &mut kinds);
     }
+    // With any yield, and at yield 0: the latter are the questions of before S-6.
+    options("price", count, Yields::Any, random(20), price, &mut kinds);
+    options("price at yield 0", count, Yields::Zero, random(10), price_at_zero, &mut kinds);
+    options("greeks", count, Yields::Any, random(21), greeks, &mut kinds);
+    options("greeks at yield 0", count, Yields::Zero, random(11), greeks_at_zero, &mut kinds);
+    solves("implied volatility", count, Yields::Any, random(22), implied, &mut kinds);
+    solves("implied volatility at yield 0", count, Yields::Zero, random(12), implied_at_zero, &mut kinds);
+    solver(count, random(18), &mut kinds);
+    surfaces(count, random(13), &mut kinds);
+    at_the_money(count, random(19), &mut kinds);
+    by_hand(count, random(15), &mut kinds);
+    fillings(count, random(16), &mut kinds);
+    trays("whole trays", count, Yields::Any, random(23), &mut kinds);
+    trays("whole trays at yield 0", count, Yields::Zero, random(17), &mut kinds);
+    totals(&kinds);
+}
 
-    type Side = fn(&Named) -> Verdict;
-    let options: [(&str, u64, Side); 2] = [("price", 10, price), ("greeks", 11, greeks)];
-    for (name, stream, side) in options {
-        let (mut r, mut k) = (random(stream), Kind::default());
-        each_family(count, |family| {
-            let q = Named(questions::option(&mut r, family), OPTION, USUAL_OPTION);
-            k.ask(side(&q), || q.clone(), side);
-        });
-        k.print(name);
-        kinds.push((name.to_string(), k));
-    }
-
-    let (mut r, mut k) = (random(12), Kind::default());
-    let (mut evaluations, mut most) = (0, 0);
+fn functions(count: u64, i: usize, name: &str, mut r: Random, kinds: &mut Kinds) {
+    let mut k = Kind::default();
     each_family(count, |family| {
-        let q = Named(questions::implied(&mut r, family), MARKET, USUAL_MARKET);
-        let verdict = implied(&q);
+        let q = One(i, questions::argument(&mut r, family, name));
+        k.ask(function(&q), || q.clone(), function);
+    });
+    k.print(name);
+    kinds.push((name.to_string(), k));
+}
+
+/// Prices or greeks. With any yield they are asked until so many values were compared whose yield is not 0, about every second being one.
+fn options(name: &str, count: u64, yields: Yields, mut r: Random, side: fn(&Named) -> Verdict, kinds: &mut Kinds) {
+    let mut k = Kind::default();
+    let (mut with, mut at_zero) = (0, 0);
+    for _ in 0..if yields == Yields::Any { 4 } else { 1 } {
+        if with >= count {
+            break;
+        }
+        each_family(count, |family| {
+            let q = Named::option(questions::option(&mut r, family, yields)).of(yields, k.asked);
+            let verdict = side(&q);
+            if matches!(&verdict, Same(how) if how == "values") {
+                *if q.is_at_zero() { &mut at_zero } else { &mut with } += 1;
+            }
+            k.ask(verdict, || q, side);
+        });
+    }
+    k.notes.push(format!("of the values, {with} with a yield other than 0, {at_zero} at yield 0"));
+    k.print(name);
+    kinds.push((name.to_string(), k));
+}
+
+fn solves(name: &str, count: u64, yields: Yields, mut r: Random, side: fn(&Named) -> Verdict, kinds: &mut Kinds) {
+    let mut k = Kind::default();
+    let (mut evaluations, mut most, mut values) = (0, 0, [0; 2]);
+    each_family(count, |family| {
+        let q = Named::market(questions::implied(&mut r, family, yields)).of(yields, k.asked);
+        let verdict = side(&q);
         if let Same(how) = &verdict {
             if how == "values" || how.ends_with("12") || how.ends_with("13") {
                 evaluations += notes::evaluations();
                 if how == "values" {
                     most = most.max(notes::evaluations());
+                    values[usize::from(q.is_at_zero())] += 1;
                 }
             }
         }
-        k.ask(verdict, || q, implied);
+        k.ask(verdict, || q, side);
     });
+    let [with, at_zero] = values;
+    k.notes.push(format!("of the values, {with} with a yield other than 0, {at_zero} at yield 0"));
     k.notes.push(format!("{evaluations} evaluations on both sides where the solver ran, {most} at most where it answered"));
-    k.print("implied volatility");
-    kinds.push(("implied volatility".to_string(), k));
+    k.print(name);
+    kinds.push((name.to_string(), k));
+}
 
-    solver(count, random(18), &mut kinds);
-
-    surfaces(count, random(13), &mut kinds);
-
-    at_the_money(count, random(19), &mut kinds);
-
-    let (mut r, mut k) = (random(15), Kind::default());
+/// Readings of surfaces made by hand.
+fn by_hand(count: u64, mut r: Random, kinds: &mut Kinds) {
+    let mut k = Kind::default();
     let mut b = Buffers::new(64, 32, 2048, 2048);
     each_family(count.div_ceil(10), |family| {
         let m = questions::made(&mut r, family);
@@ -1161,8 +1316,10 @@ fn main() {
     });
     k.print("readings of surfaces made by hand");
     kinds.push(("readings of surfaces made by hand".to_string(), k));
+}
 
-    let (mut r, mut k) = (random(16), Kind::default());
+fn fillings(count: u64, mut r: Random, kinds: &mut Kinds) {
+    let mut k = Kind::default();
     each_family(count, |family| {
         let rows = questions::gaps(&mut r, family);
         let (strikes, expiries) = (rows.first().map_or(r.below(65), |row| row.len() as u64), rows.len() as u64);
@@ -1179,28 +1336,33 @@ fn main() {
     });
     k.print("gap filler");
     kinds.push(("gap filler".to_string(), k));
+}
 
-    let (mut r, mut k) = (random(17), Kind::default());
-    let (mut heard, mut solved) = (0, 0);
+fn trays(name: &str, count: u64, yields: Yields, mut r: Random, kinds: &mut Kinds) {
+    let mut k = Kind::default();
+    // Prices solved with a yield other than 0, and at 0.
+    let (mut heard, mut solved) = (0, [0; 2]);
     while heard < count {
         for family in FAMILIES {
-            let o = questions::offers(&mut r, family);
+            let mut o = questions::offers(&mut r, family, yields);
+            if yields == Yields::Zero {
+                o.dividend_yield = zero(k.asked);
+            }
             let mut t = Tray::new(o.len());
             let verdict = tray_verdict(&o, &mut t);
             heard += o.len() as u64;
-            solved += t.numbers.iter().filter(|row| row[0] == 0 && row[1] > 0).count();
+            solved[usize::from(o.dividend_yield == 0.0)] += t.numbers.iter().filter(|row| row[0] == 0 && row[1] > 0).count();
             k.ask(verdict, || o.clone(), tray);
         }
     }
-    k.notes.push(format!("{heard} offers, an answer and its evidence for each; {solved} prices solved"));
-    k.print("whole trays");
-    kinds.push(("whole trays".to_string(), k));
-
-    totals(&kinds);
+    let [with, at_zero] = solved;
+    k.notes.push(format!("{heard} offers, an answer and its evidence for each; {with} prices solved with a yield other than 0, {at_zero} at yield 0"));
+    k.print(name);
+    kinds.push((name.to_string(), k));
 }
 
 /// The solver alone, fed any prices: a question is a price fed.
-fn solver(count: u64, mut r: Random, kinds: &mut Vec<(String, Kind)>) {
+fn solver(count: u64, mut r: Random, kinds: &mut Kinds) {
     let mut k = Kind::default();
     let (mut fed_prices, mut most) = (0, 0);
     while fed_prices < count {
@@ -1237,7 +1399,7 @@ fn solver(count: u64, mut r: Random, kinds: &mut Vec<(String, Kind)>) {
 }
 
 /// Builds, and readings of what they built.
-fn surfaces(count: u64, mut r: Random, kinds: &mut Vec<(String, Kind)>) {
+fn surfaces(count: u64, mut r: Random, kinds: &mut Kinds) {
     let (mut builds, mut reads) = (Kind::default(), Kind::default());
     let (mut cells, mut quotes) = (0, 0);
     while cells < count || reads.asked < count {
@@ -1319,7 +1481,7 @@ fn money_traits(q: &Money) -> [bool; 4] {
 }
 
 /// Readings at the money.
-fn at_the_money(count: u64, mut r: Random, kinds: &mut Vec<(String, Kind)>) {
+fn at_the_money(count: u64, mut r: Random, kinds: &mut Kinds) {
     let mut k = Kind::default();
     let mut seen = [0; 4];
     while k.asked < count {

@@ -1,11 +1,14 @@
 //! Writes a sample of the oracle's answers, the list that crates/replay reads: `cargo run --release --bin sample > ../crates/replay/stdin`.
-//! The questions are those of the comparison, from another seed; what the Rust computes where document 01 refuses is left out. A line is a kind of six
+//! The questions are those of the comparison, from other seeds; what the Rust computes where documents 01 and 02 refuse is left out. A line is a kind of six
 //! letters and words of 16 hexadecimal digits: the inputs, then the expected answer (its number, 0 for done, and its values; zeros with a refusal).
+//!
+//! Options come first at yield 0, answered by the Rust that knows none, and at the end of the list with any yield, answered by `bsm_call` and `bsm_put`, by
+//! the Rust's solver on their prices, and by oracle::haug.
 use oracle::greeks_noted::{bsm_greeks, bsm_price, implied_volatility, GreekError, OptionParams, OptionType};
-use oracle::questions::{self, Asked, Family, Quotes, FAMILIES, FUNCTIONS};
+use oracle::questions::{self, Asked, Family, Quotes, Yields, FAMILIES, FUNCTIONS};
 use oracle::random::Random;
 use oracle::surface_noted::{VolPoint, VolSurface};
-use oracle::{checks, normal, notes, reference};
+use oracle::{carried_noted, checks, haug, normal, notes, reference};
 
 /// Every not-a-number is written as one.
 fn bits(x: f64) -> u64 {
@@ -34,7 +37,8 @@ fn functions(r: &mut Random, each: usize) {
     }
 }
 
-fn params(put: bool, [spot, strike, time_to_expiry, risk_free_rate, volatility]: [f64; 5]) -> OptionParams {
+/// The option as the Rust has it, which knows no yield.
+fn params(put: bool, [spot, strike, time_to_expiry, risk_free_rate, _, volatility]: [f64; 6]) -> OptionParams {
     let option_type = if put { OptionType::Put } else { OptionType::Call };
     OptionParams { spot, strike, time_to_expiry, risk_free_rate, volatility, option_type }
 }
@@ -53,14 +57,19 @@ fn option_line(kind: &str, asked: &Asked, number: u64, values: &[f64]) {
     line(kind, &words);
 }
 
-/// Prices or greeks: those inside 01's limits, and those that both refuse.
-fn options<const N: usize>(r: &mut Random, kind: &str, count: usize, side: impl Fn(&OptionParams) -> Result<[f64; N], GreekError>) {
+/// Prices or greeks: those inside the limits, and those that both refuse.
+fn options<const N: usize>(r: &mut Random, kind: &str, yields: Yields, count: usize, side: impl Fn(&Asked) -> Result<[f64; N], GreekError>) {
     let mut left = count;
     while left > 0 {
-        let asked = questions::option(r, FAMILIES[left % FAMILIES.len()]);
-        let [spot, strike, expiry, rate, volatility] = asked.values;
-        let check = checks::option(spot, strike, expiry, rate, volatility).number;
-        match side(&params(asked.put, asked.values)) {
+        let mut asked = questions::option(r, FAMILIES[left % FAMILIES.len()], yields);
+        let check = checks::option(asked.values).number;
+        let answer = side(&asked);
+        // A call's theta of -0.0 is 0.0 at yield 0.0 (docs/DIFFERENCES.md). At -0.0 it keeps its bits, so it is asked there.
+        let theta = answer.as_ref().ok().and_then(|values| values.get(2));
+        if yields == Yields::Zero && !asked.put && theta.is_some_and(|theta| theta.to_bits() == (-0.0f64).to_bits()) {
+            asked.values[4] = -0.0;
+        }
+        match answer {
             Ok(values) if check == 0 => option_line(kind, &asked, 0, &values),
             Err(GreekError::InvalidParams(m)) if check == guard(&m) => option_line(kind, &asked, check, &[0.0; N]),
             _ => continue,
@@ -69,15 +78,40 @@ fn options<const N: usize>(r: &mut Random, kind: &str, count: usize, side: impl 
     }
 }
 
+fn price(asked: &Asked) -> Result<[f64; 1], GreekError> {
+    bsm_price(&params(asked.put, asked.values)).map(|x| [x])
+}
+
+fn greeks(asked: &Asked) -> Result<[f64; 7], GreekError> {
+    bsm_greeks(&params(asked.put, asked.values)).map(|g| [g.delta, g.gamma, g.theta, g.vega, g.rho, g.vanna, g.volga])
+}
+
+/// The Rust's solver as it stands.
+fn solve(asked: &Asked) -> Result<f64, GreekError> {
+    let [market, spot, strike, expiry, rate, _] = asked.values;
+    implied_volatility(market, &params(asked.put, [spot, strike, expiry, rate, 0.0, 0.0]))
+}
+
+/// The Rust's solver on the prices of `bsm_call` and `bsm_put`.
+fn solve_carried(asked: &Asked) -> Result<f64, GreekError> {
+    use carried_noted::{GreekError as Theirs, OptionParams, OptionType};
+    let [market, spot, strike, time_to_expiry, risk_free_rate, dividend_yield] = asked.values;
+    let option_type = if asked.put { OptionType::Put } else { OptionType::Call };
+    let p = OptionParams { spot, strike, time_to_expiry, risk_free_rate, dividend_yield, volatility: 0.0, option_type };
+    carried_noted::implied_volatility(market, &p).map_err(|e| match e {
+        Theirs::NoConvergence => GreekError::NoConvergence,
+        Theirs::InvalidParams(m) => GreekError::InvalidParams(m),
+    })
+}
+
 /// Solves: `NoConvergence` is 12 after the two ends, 13 after all 52 prices.
-fn solves(r: &mut Random, count: usize) {
+fn solves(r: &mut Random, yields: Yields, count: usize, side: fn(&Asked) -> Result<f64, GreekError>) {
     let mut left = count;
     while left > 0 {
-        let asked = questions::implied(r, FAMILIES[left % FAMILIES.len()]);
-        let [market, spot, strike, expiry, rate] = asked.values;
-        let check = checks::implied(market, spot, strike, expiry, rate).number;
+        let asked = questions::implied(r, FAMILIES[left % FAMILIES.len()], yields);
+        let check = checks::implied(asked.values).number;
         notes::clear();
-        let answer = implied_volatility(market, &params(asked.put, [spot, strike, expiry, rate, 0.0]));
+        let answer = side(&asked);
         let made = notes::evaluations();
         let (number, values) = match answer {
             Ok(_) if check == 0 => (0, notes::answer().unwrap()),
@@ -188,9 +222,13 @@ fn gaps(r: &mut Random, count: usize) {
 fn main() {
     let mut r = Random(1973);
     functions(&mut r, 100);
-    options(&mut r, "price", 400, |p| bsm_price(p).map(|x| [x]));
-    options(&mut r, "greeks", 250, |p| bsm_greeks(p).map(|g| [g.delta, g.gamma, g.theta, g.vega, g.rho, g.vanna, g.volga]));
-    solves(&mut r, 500);
+    options(&mut r, "price", Yields::Zero, 400, price);
+    options(&mut r, "greeks", Yields::Zero, 250, greeks);
+    solves(&mut r, Yields::Zero, 500, solve);
     surfaces(&mut r, 30);
     gaps(&mut r, 40);
+    let mut r = Random(1976);
+    options(&mut r, "price", Yields::Any, 400, |asked| Ok([questions::price(asked)]));
+    options(&mut r, "greeks", Yields::Any, 250, |asked| Ok(haug::greeks(asked.put, asked.values)));
+    solves(&mut r, Yields::Any, 400, solve_carried);
 }

@@ -35,7 +35,7 @@ abbrev os : tie.After-open → List Offer
 os c = let a = (entry c).args in heard_offers a.kinds.now a.figures.now (L c).answers
 
 abbrev on : tie.After-open → Opening
-on c = let a = (entry c).args in record { spot = a.spot; rate = a.rate }
+on c = let a = (entry c).args in record { spot = a.spot; rate = a.rate; dividend_yield = a.dividend-yield }
 
 open-requires : tie.Need-open-requires
 open-requires c κs = search rules

@@ -1,4 +1,4 @@
--- `blotter::line_request`: a word of six stands in the line. Assumes nothing.
+-- `blotter::line_request`: a word of seven stands in the line. Assumes nothing.
 use native.Mathlib.Omega.{arith}
 use Prim.Native.Nat.{◌*◌, ◌-◌, ◌≤◌}
 use borrow.Author.Rules.{rules}
@@ -6,7 +6,7 @@ use Rattle.blotter.proofs.line_request.Statement.{statement}
 use Rattle.blotter.proofs.line_request.Tie as tie
 
 abbrev invariant-loop : tie.invariant-loop
-invariant-loop line seen n x₀ good₀ i₀ x good i = (n ≤ 6) × (i ≤ 17 * n)
+invariant-loop line seen n x₀ good₀ i₀ x good i = (n ≤ 7) × (i ≤ 17 * n)
 
 abbrev decreases-loop : tie.decreases-loop
 decreases-loop line seen n x₀ good₀ i₀ x good i = 17 * n - i

@@ -19,7 +19,7 @@ unfolding opened answered outcome_of_opening of_bits round
 returns c =
     let a = c.before.before.before.args in
     let n = c.before.before.open-number.ensures in
-    let r = open_refusal (record { spot = a.spot; rate = a.rate }) in
+    let r = open_refusal (record { spot = a.spot; rate = a.rate; dividend_yield = a.dividend-yield }) in
     simp (n, ne_eqb r 0 (λ (e : r ≡ 0). c.before.if1.true (n ∙ e)), c.fresh.ensures)
 
 fresh-requires-2 : tie.Need-fresh-requires-2
@@ -30,7 +30,7 @@ unfolding opened answered outcome_of_opening
 returns-2 c =
     let a = c.before.before.before.args in
     let z = sym c.before.before.open-number.ensures ∙ c.before.if1.false in
-    let r = open_refusal (record { spot = a.spot; rate = a.rate }) in
+    let r = open_refusal (record { spot = a.spot; rate = a.rate; dividend_yield = a.dividend-yield }) in
     simp (eq-eqb r 0 z, c.fresh2.ensures)
 
 pub open_spec : {M : Type 1} → statement M

@@ -16,6 +16,9 @@ is-expiry-requires c κs = search rules
 is-rate-requires : tie.Need-is-rate-requires
 is-rate-requires c κs = search rules
 
+is-yield-requires : tie.Need-is-yield-requires
+is-yield-requires c κs = search rules
+
 first-requires : tie.Need-first-requires
 first-requires c κs = search rules
 
@@ -28,20 +31,25 @@ first-requires-3 c κs = search rules
 first-requires-4 : tie.Need-first-requires-4
 first-requires-4 c κs = search rules
 
+first-requires-5 : tie.Need-first-requires-5
+first-requires-5 c κs = search rules
+
 returns : tie.Need-returns
 unfolding option_refusal
 returns c =
-    let lines = c.before.before in
+    let lines = c.before.before.before in
     let tests = lines.before.before in
     simp (
-      c.first4.ensures,
-      c.before.first3.ensures,
+      c.first5.ensures,
+      c.before.first4.ensures,
+      c.before.before.first3.ensures,
       lines.first2.ensures,
       lines.before.first.ensures,
-      tests.is-rate.ensures,
-      tests.before.is-expiry.ensures,
-      tests.before.before.is-strike.ensures,
-      tests.before.before.before.is-spot.ensures,
+      tests.is-yield.ensures,
+      tests.before.is-rate.ensures,
+      tests.before.before.is-expiry.ensures,
+      tests.before.before.before.is-strike.ensures,
+      tests.before.before.before.before.is-spot.ensures,
     )
 
 pub option_number_spec : {M : Type 1} → statement M
@@ -52,8 +60,10 @@ option_number_spec =
     is-strike-requires
     is-expiry-requires
     is-rate-requires
+    is-yield-requires
     first-requires
     first-requires-2
     first-requires-3
     first-requires-4
+    first-requires-5
     returns)

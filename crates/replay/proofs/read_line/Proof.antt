@@ -1,4 +1,4 @@
--- `replay::read_line`: a line of 14 words at most is 239 bytes long, inside the 240 places. Assumes nothing.
+-- `replay::read_line`: a line of 15 words at most is 256 bytes long, as many as there are places. Assumes nothing.
 use Rattle.std.proofs.Common.{◌+◌, ◌*◌, replicate, sym, arith, length-take-le, rules}
 use Rattle.replay.proofs.read_line.Statement.{statement}
 use Rattle.replay.proofs.read_line.Tie as tie
@@ -28,7 +28,7 @@ array-borrow-prefix-words : tie.Need-array-borrow-prefix-words
 array-borrow-prefix-words c = search rules
 
 slice-aggregate-read-full-2 : tie.Need-slice-aggregate-read-full-2
-slice-aggregate-read-full-2 c = sym (length-take-le (17 * c.before.width.result + 1) (replicate 240 32) (omega arith))
+slice-aggregate-read-full-2 c = sym (length-take-le (17 * c.before.width.result + 1) (replicate 256 32) (omega arith))
 
 read-full-requires-2 : tie.Need-read-full-requires-2
 read-full-requires-2 c κs = search rules

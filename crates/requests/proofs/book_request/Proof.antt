@@ -20,9 +20,22 @@ array-read-float-of-2 c = search rules
 float-of-requires-2 : tie.Need-float-of-requires-2
 float-of-requires-2 c κs = tt
 
+array-read-float-of-3 : tie.Need-array-read-float-of-3
+array-read-float-of-3 c = search rules
+
+float-of-requires-3 : tie.Need-float-of-requires-3
+float-of-requires-3 c κs = tt
+
 returns : tie.Need-returns
 unfolding book_request
-returns c = simp (c.float-of2.ensures, c.before.float_of.ensures, sym c.before.before.before.is.ensures ∙ c.before.before.if1.true)
+returns c =
+    let p1 = c.before.before.before in
+    simp (
+      c.float-of3.ensures,
+      c.before.float-of2.ensures,
+      c.before.before.float_of.ensures,
+      sym p1.before.is.ensures ∙ p1.if1.true,
+    )
 
 is-requires-2 : tie.Need-is-requires-2
 is-requires-2 c κs = tt
@@ -40,17 +53,17 @@ returns-2 c =
 is-requires-3 : tie.Need-is-requires-3
 is-requires-3 c κs = tt
 
-array-read-float-of-3 : tie.Need-array-read-float-of-3
-array-read-float-of-3 c = search rules
-
-float-of-requires-3 : tie.Need-float-of-requires-3
-float-of-requires-3 c κs = tt
-
 array-read-float-of-4 : tie.Need-array-read-float-of-4
 array-read-float-of-4 c = search rules
 
 float-of-requires-4 : tie.Need-float-of-requires-4
 float-of-requires-4 c κs = tt
+
+array-read-float-of-5 : tie.Need-array-read-float-of-5
+array-read-float-of-5 c = search rules
+
+float-of-requires-5 : tie.Need-float-of-requires-5
+float-of-requires-5 c κs = tt
 
 returns-3 : tie.Need-returns-3
 unfolding book_request
@@ -59,8 +72,8 @@ returns-3 c =
     let p2 = p3.before.before.before in
     let p1 = p2.before.before.before in
     simp (
-      c.float-of4.ensures,
-      c.before.float-of3.ensures,
+      c.float-of5.ensures,
+      c.before.float-of4.ensures,
       sym p3.before.is3.ensures ∙ p3.if3.true,
       sym p2.before.is2.ensures ∙ p2.if2.false,
       sym p1.before.is.ensures ∙ p1.if1.false,
@@ -69,11 +82,11 @@ returns-3 c =
 is-requires-4 : tie.Need-is-requires-4
 is-requires-4 c κs = tt
 
-array-read-float-of-5 : tie.Need-array-read-float-of-5
-array-read-float-of-5 c = search rules
+array-read-float-of-6 : tie.Need-array-read-float-of-6
+array-read-float-of-6 c = search rules
 
-float-of-requires-5 : tie.Need-float-of-requires-5
-float-of-requires-5 c κs = tt
+float-of-requires-6 : tie.Need-float-of-requires-6
+float-of-requires-6 c κs = tt
 
 returns-4 : tie.Need-returns-4
 unfolding book_request
@@ -83,7 +96,7 @@ returns-4 c =
     let p2 = p3.before.before.before in
     let p1 = p2.before.before.before in
     simp (
-      c.float-of5.ensures,
+      c.float-of6.ensures,
       sym p4.before.is4.ensures ∙ p4.if4.true,
       sym p3.before.is3.ensures ∙ p3.if3.false,
       sym p2.before.is2.ensures ∙ p2.if2.false,
@@ -117,18 +130,20 @@ book_request_spec =
     float-of-requires
     array-read-float-of-2
     float-of-requires-2
+    array-read-float-of-3
+    float-of-requires-3
     returns
     is-requires-2
     returns-2
     is-requires-3
-    array-read-float-of-3
-    float-of-requires-3
     array-read-float-of-4
     float-of-requires-4
-    returns-3
-    is-requires-4
     array-read-float-of-5
     float-of-requires-5
+    returns-3
+    is-requires-4
+    array-read-float-of-6
+    float-of-requires-6
     returns-4
     model-request-requires
     returns-5)

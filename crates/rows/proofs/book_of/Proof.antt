@@ -4,20 +4,20 @@ use borrow.Author.Rules.{rules}
 use Rattle.rows.proofs.book_of.Statement.{statement}
 use Rattle.rows.proofs.book_of.Tie as tie
 
-array-read-t7 : tie.Need-array-read-t7
-array-read-t7 c = search rules
+array-read-t8 : tie.Need-array-read-t8
+array-read-t8 c = search rules
 
-array-read-t10 : tie.Need-array-read-t10
-array-read-t10 c = search rules
+array-read-t11 : tie.Need-array-read-t11
+array-read-t11 c = search rules
 
-array-read-t13 : tie.Need-array-read-t13
-array-read-t13 c = search rules
+array-read-t14 : tie.Need-array-read-t14
+array-read-t14 c = search rules
 
-array-read-t16 : tie.Need-array-read-t16
-array-read-t16 c = search rules
+array-read-t17 : tie.Need-array-read-t17
+array-read-t17 c = search rules
 
 returns : tie.Need-returns
 returns c = refl
 
 pub book_of_spec : {M : Type 1} → statement M
-book_of_spec = tie.close (tie.spec array-read-t7 array-read-t10 array-read-t13 array-read-t16 returns)
+book_of_spec = tie.close (tie.spec array-read-t8 array-read-t11 array-read-t14 array-read-t17 returns)
