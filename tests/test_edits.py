@@ -19,7 +19,7 @@ FACTS = {
     'two sides differ': re.compile(r'the two (?:types|values|sides) (?:first |)(?:differ |)(?:only |)(?:where one has|are(?! identical)) '),
     'a computed test is false': re.compile(r' ≟ .*: does not hold'),
     'another statement is proved': re.compile(r'expected type\s+`'),
-    'numbers at which it fails': re.compile(r'`omega`: the goal does not follow from what it read|; the facts known there'),
+    'numbers at which it fails': re.compile(r'`omega`: the goal does not follow from what it read|the facts known there allow values'),
     'an equation is left open': re.compile(r'give a proof of that as the last argument, `(?:simp|rw|cc)'),
 }
 # What it says where the text alone no longer fits. Of a goal for which it found no proof, it says no more than that: such an edit is listed.

@@ -13,7 +13,7 @@ use Rattle.ledger.specs.Model.{Opening, Model}
 use Rattle.ledger.specs.Tally.{Tally, fresh as noQuotes, step}
 use Rattle.ledger.specs.Book.{Columns, open_refusal, is_short}
 use Rattle.ledger.specs.Build.{quotes_of}
-use Rattle.ledger.specs.Claim.{Ledger, hear, reply, Right, holding, tallied, first_ledger_lem, ledger, ListClaim}
+use Rattle.ledger.specs.Claim.{Ledger, hear, reply, Right, holding, tallied, first_ledger, ledger, ListClaim}
 use Rattle.ledger.specs.declared.Offer.{Offer}
 use Rattle.ledger.proofs.Folds.{holds_after, holds_each, holds_sum}
 use Rattle.ledger.proofs.Quoted.{column_front}
@@ -43,11 +43,11 @@ module _ (model : Model) (opening : Opening) (was : Columns) (ok : open_refusal 
       (column_front _ t.quotes was.strikes) (column_front _ t.quotes was.expiries) (column_front _ t.quotes was.volatilities))
 
   pub agreed : (os : List Offer) → Agree opening was (ledger model opening was os) (tallied model opening was os)
-  agreed os = holds_after (hear model) tells (Agree opening was) keeps (first_ledger_lem model opening was os) noQuotes os (start opening was)
+  agreed os = holds_after (hear model) tells (Agree opening was) keeps (first_ledger model opening was os) noQuotes os (start opening was)
 
   pub list_claim : (os : List Offer) → ListClaim model opening was os
   list_claim os =
-      let first = first_ledger_lem model opening was os in
+      let first = first_ledger model opening was os in
       let a = agreed os in
       record {
         each = holds_each (hear model) tells (Agree opening was) keeps (reply model) (Right model opening (is_short was))

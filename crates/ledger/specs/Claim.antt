@@ -144,14 +144,14 @@ module _ (model : Model) (opening : Opening) (c : Columns) (os : List Offer) whe
   abbrev pub tallied : Tally
   tallied = tally model opening (is_short c) os
 
-  abbrev pub first_ledger_lem : Ledger
-  first_ledger_lem = record { book = fresh opening; columns = c }
+  abbrev pub first_ledger : Ledger
+  first_ledger = record { book = fresh opening; columns = c }
 
   abbrev pub ledger : Ledger
-  ledger = after (hear model) first_ledger_lem os
+  ledger = after (hear model) first_ledger os
 
   abbrev pub answers : List (Outcome Solution)
-  answers = along (hear model) (reply model) first_ledger_lem os
+  answers = along (hear model) (reply model) first_ledger os
 
   -- What demand 3 asks of a book that heard the list: of its answers rs, of the record and columns that it is left with, and of the record after the
   -- first n offers.
@@ -174,7 +174,7 @@ module _ (model : Model) (opening : Opening) (c : Columns) (os : List Offer) whe
 
   -- It holds of the book.
   abbrev pub ListClaim : Type 0
-  ListClaim = Agrees answers ledger (λ n. (after (hear model) first_ledger_lem (take n os)).book)
+  ListClaim = Agrees answers ledger (λ n. (after (hear model) first_ledger (take n os)).book)
 
 -- ---- the build
 -- "the nearest counted cell to its left in the row, else to its right"

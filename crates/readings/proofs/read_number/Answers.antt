@@ -5,14 +5,17 @@ use Rattle.limits.specs.Checks.{first, none}
 use Rattle.floats.proofs.Tests.{and_left, and_right}
 use Prim.Native.Nat.{◌≤◌, ◌<◌}
 use mathlib.Core.Path.{◌≡◌, sym, ◌∙◌}
-use mathlib.Core.Bool.{true, not, ◌&&◌}
+use mathlib.Core.Bool.{true, not, ◌&&◌, ◌||◌}
+use lib.Dec.{ltb}
 use lib.ListN.{length, take}
 use native.Mathlib.Omega.{arith}
 use Rattle.readings.proofs.read_number.Goals as goal
 
 pub returns-then-strikes-expiries : goal.returns-then-strikes-expiries
 unfolding read_refusal first
-returns-then-strikes-expiries c = simp c.if-strikes-expiries.true
+returns-then-strikes-expiries c =
+    let large : (ltb 64 c.args.strikes || ltb 32 c.args.expiries) ≡ true = c.if-strikes-expiries.true in
+    simp large
 
 pub returns-then-strike_axis-expiry_axis : goal.returns-then-strike_axis-expiry_axis
 unfolding read_refusal first
