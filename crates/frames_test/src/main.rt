@@ -1,10 +1,9 @@
 // A test of crates frames and streams: for each line of the input, read seven bytes at a time, its kind with each of its floats, or 21 for a bad line.
 #![tactic(auto)]
 
-ghost use Rattle.std.specs.Prelude.{◌≤◌};
-
 use hexlines::{Frame, Line, Taken};
-use std::io::{Read, Stdin};
+
+const STDIN_FILENO: i32 = 0;
 
 const STDOUT_FILENO: i32 = 1;
 
@@ -88,20 +87,9 @@ fn take_chunk(line: Line, chunk: &[u8]) -> Line {
     t.line
 }
 
-// How many bytes a read gave, none where it failed.
-fn read_into(stdin: Stdin, input: &mut [u8; 7]) -> usize
-    ensures { result ≤ 7 }
-{
-    let mut source = stdin;
-    match source.read(&mut input[..]) {
-        Ok(n) => n,
-        Err(_) => 0,
-    }
-}
-
-fn read_some(stdin: Stdin, line: Line) -> Turn {
+fn read_some(line: Line) -> Turn {
     let mut input = [0u8; 7];
-    let n = read_into(stdin, &mut input);
+    let n = io::read_full(STDIN_FILENO, &mut input);
     if n == 0 {
         return Turn {
             line: line,
@@ -114,14 +102,14 @@ fn read_some(stdin: Stdin, line: Line) -> Turn {
     }
 }
 
-fn main(rt: HostRuntime) {
+fn main() {
     let mut t = Turn {
         line: streams::no_line(),
         more: true,
     };
     let mut turns = u64::MAX;
     while turns > 0 && t.more {
-        t = read_some(rt.stdin(), t.line);
+        t = read_some(t.line);
         turns -= 1;
     }
     let rest = t.line;
