@@ -6,7 +6,10 @@ use Rattle.desk.proofs.hear.Goals as goal
 pub write_text-requires : goal.write_text-requires
 write_text-requires c =
     let C : Columns = let a = c.args in columns_of a.strikes.now a.expiries.now a.volatilities.now in
-    let a = c.args in record { text_in_bounds = within a.state C a.part.now a.out.now c.turn-step.result _ _ c.turn-step.ensures; had_room = roomy a.state C a.part.now a.out.now c.turn-step.result _ _ c.turn-step.ensures c.requires.part_in_bounds c.requires.in_bounds }
+    let a = c.args in record {
+      text_in_bounds = within a.state C a.part.now a.out.now c.turn-step.result _ _ c.turn-step.ensures;
+      had_room = roomy a.state C a.part.now a.out.now c.turn-step.result _ _ c.turn-step.ensures c.requires.part_in_bounds c.requires.in_bounds;
+    }
 
 pub returns-then-not-write_text : goal.returns-then-not-write_text
 returns-then-not-write_text c =

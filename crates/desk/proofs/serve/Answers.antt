@@ -23,7 +23,11 @@ loop-turns-init c =
 pub answer-t-requires : goal.answer-t-requires
 answer-t-requires c =
     let v = c.loop-turns.invariant in
-    record { within = c.read_part-got.ensures; input_in_bounds = omega (arith, c.requires.input_in_bounds, v.0, v.4, c.read_part-got.auto); in_bounds = omega (arith, c.requires.in_bounds, v.4) }
+    record {
+      within = c.read_part-got.ensures;
+      input_in_bounds = omega (arith, c.requires.input_in_bounds, v.0, v.4, c.read_part-got.auto);
+      in_bounds = omega (arith, c.requires.in_bounds, v.4);
+    }
 
 pub loop-turns-preserved : goal.loop-turns-preserved
 loop-turns-preserved c =

@@ -8,7 +8,8 @@ use Rattle.desk.specs.Served.{Served}
 use Rattle.desk.proofs.serve.Given as goal
 
 abbrev pub invariant-loop-turns : goal.invariant-loop-turns
-invariant-loop-turns l = (length l.input ≡ length l.initial.input) × (length l.strikes ≡ length l.initial.strikes) × (length l.expiries ≡ length l.initial.expiries)
+invariant-loop-turns l =
+    (length l.input ≡ length l.initial.input) × (length l.strikes ≡ length l.initial.strikes) × (length l.expiries ≡ length l.initial.expiries)
     × (length l.volatilities ≡ length l.initial.volatilities) × (length l.out ≡ length l.initial.out)
     × Served (length l.initial.input) (holds fresh (columns_of l.initial.strikes l.initial.expiries l.initial.volatilities) l.initial.out)
     (holds l.t.state (columns_of l.strikes l.expiries l.volatilities) l.out) l.t.more

@@ -1,5 +1,6 @@
 -- `exponential::exp`: after the tests v × 1.4426950408889634 + 0.5 is in range (Scaled), so floor and powers are defined. Assumes nothing.
-use Rattle.std.proofs.Common.{◌≡◌, ℕ, suc, ◌+◌, ◌-◌, ◌<◌, ◌≤◌, Bool, true, false, cond, T, ltb, ℤ, pos, negsuc, ◌+ℤ◌, sym, refl, ap, ◌∙◌, subst, true≢false, arith, lit≤, ltb→lt, w64, SFits, to_z, of_z}
+use Rattle.std.proofs.Common.{◌≡◌, ℕ, suc, ◌+◌, ◌-◌, ◌<◌, ◌≤◌, Bool, true, false, cond, T, ltb, ℤ, pos}
+use Rattle.std.proofs.Common.{negsuc, ◌+ℤ◌, sym, refl, ap, ◌∙◌, subst, true≢false, arith, lit≤, ltb→lt, w64, SFits, to_z, of_z}
 use lib.Signed.{mag}
 use lib.Ieee.{Float, nan, inf, fin, is_nan, ne, of_bits, neg, div, round}
 use lib.Ieee.Compare.{differs_from_itself, nan_differs}
@@ -72,7 +73,8 @@ int_to_float-f c =
     let t-range : InRange 1075 (scaled tried) = in_range tried number c.if-v-2.false c.if-v-3.false in
     let k_of : ℤ = floor (scaled tried) in
     let k_few : mag k_of < 1076 = few k_of (range_exponent 1075 _ t-range) in
-    let back : to_z w64 (of_z w64 c.floor-k.result) ≡ k_of = ap (λ (z : ℤ). to_z w64 (of_z w64 z)) c.floor-k.ensures ∙ to_z-of_z w64 k_of (let h = k_few in few_fits k_of (omega arith)) in
+    let back : to_z w64 (of_z w64 c.floor-k.result) ≡ k_of =
+    ap (λ (z : ℤ). to_z w64 (of_z w64 z)) c.floor-k.ensures ∙ to_z-of_z w64 k_of (let h = k_few in few_fits k_of (omega arith)) in
     rw back (let h = k_few in few_in_float k_of (omega arith))
 
 pub two_to-requires-2 : goal.two_to-requires-2
@@ -83,7 +85,8 @@ two_to-requires-2 c =
     let t-range : InRange 1075 (scaled tried) = in_range tried number c.if-v-2.false c.if-v-3.false in
     let k_of : ℤ = floor (scaled tried) in
     let k_few : mag k_of < 1076 = few k_of (range_exponent 1075 _ t-range) in
-    let back : to_z w64 (of_z w64 c.floor-k.result) ≡ k_of = ap (λ (z : ℤ). to_z w64 (of_z w64 z)) c.floor-k.ensures ∙ to_z-of_z w64 k_of (let h = k_few in few_fits k_of (omega arith)) in
+    let back : to_z w64 (of_z w64 c.floor-k.result) ≡ k_of =
+    ap (λ (z : ℤ). to_z w64 (of_z w64 z)) c.floor-k.ensures ∙ to_z-of_z w64 k_of (let h = k_few in few_fits k_of (omega arith)) in
     let normal-k : T (in_exponent k_of) = k_normal tried number c.if-v-2.false c.if-v-4.false in
     rw back normal-k
 
@@ -95,7 +98,8 @@ returns c =
     let t-range : InRange 1075 (scaled tried) = in_range tried number c.if-v-2.false c.if-v-3.false in
     let k_of : ℤ = floor (scaled tried) in
     let k_few : mag k_of < 1076 = few k_of (range_exponent 1075 _ t-range) in
-    let back : to_z w64 (of_z w64 c.floor-k.result) ≡ k_of = ap (λ (z : ℤ). to_z w64 (of_z w64 z)) c.floor-k.ensures ∙ to_z-of_z w64 k_of (let h = k_few in few_fits k_of (omega arith)) in
+    let back : to_z w64 (of_z w64 c.floor-k.result) ≡ k_of =
+    ap (λ (z : ℤ). to_z w64 (of_z w64 z)) c.floor-k.ensures ∙ to_z-of_z w64 k_of (let h = k_few in few_fits k_of (omega arith)) in
     let p-is : c.horner-p.result ≡ sum_at tried k_of = c.horner-p.ensures ∙ sum_E _ c.table_e-table.ensures _ ∙ ap (sum_at tried) back in
     rw (p-is, c.two_to-2.ensures, back)
     (sym (exp_normal tried number c.if-v-2.false c.if-v-4.false))
@@ -108,7 +112,8 @@ overflow_add-k c =
     let t-range : InRange 1075 (scaled tried) = in_range tried number c.if-v-2.false c.if-v-3.false in
     let k_of : ℤ = floor (scaled tried) in
     let k_few : mag k_of < 1076 = few k_of (range_exponent 1075 _ t-range) in
-    let back : to_z w64 (of_z w64 c.floor-k.result) ≡ k_of = ap (λ (z : ℤ). to_z w64 (of_z w64 z)) c.floor-k.ensures ∙ to_z-of_z w64 k_of (let h = k_few in few_fits k_of (omega arith)) in
+    let back : to_z w64 (of_z w64 c.floor-k.result) ≡ k_of =
+    ap (λ (z : ℤ). to_z w64 (of_z w64 z)) c.floor-k.ensures ∙ to_z-of_z w64 k_of (let h = k_few in few_fits k_of (omega arith)) in
     rw back (plus_fits k_of _ (lit≤ tt) k_few)
 
 pub two_to-requires : goal.two_to-requires
@@ -119,11 +124,13 @@ two_to-requires c =
     let t-range : InRange 1075 (scaled tried) = in_range tried number c.if-v-2.false c.if-v-3.false in
     let k_of : ℤ = floor (scaled tried) in
     let k_few : mag k_of < 1076 = few k_of (range_exponent 1075 _ t-range) in
-    let back : to_z w64 (of_z w64 c.floor-k.result) ≡ k_of = ap (λ (z : ℤ). to_z w64 (of_z w64 z)) c.floor-k.ensures ∙ to_z-of_z w64 k_of (let h = k_few in few_fits k_of (omega arith)) in
+    let back : to_z w64 (of_z w64 c.floor-k.result) ≡ k_of =
+    ap (λ (z : ℤ). to_z w64 (of_z w64 z)) c.floor-k.ensures ∙ to_z-of_z w64 k_of (let h = k_few in few_fits k_of (omega arith)) in
     let far-back : to_z w64 (of_z w64 (to_z w64 (of_z w64 c.floor-k.result) +ℤ pos 200)) ≡ k_of +ℤ pos 200 =
     ap (λ (z : ℤ). to_z w64 (of_z w64 (z +ℤ pos 200))) back
     ∙ to_z-of_z w64 _ (plus_fits k_of 200 (lit≤ tt) k_few) in
-    let far-k : T (in_exponent (k_of +ℤ pos 200)) = far_exponent tried (subst T (sym c.well_formed.0.1) tt) number c.if-v-2.false c.if-v-3.false c.if-v-4.true in
+    let far-k : T (in_exponent (k_of +ℤ pos 200)) =
+    far_exponent tried (subst T (sym c.well_formed.0.1) tt) number c.if-v-2.false c.if-v-3.false c.if-v-4.true in
     subst (λ (z : ℤ). T (in_exponent z)) (sym far-back) far-k
 
 pub returns-then-v-4 : goal.returns-then-v-4
@@ -134,7 +141,8 @@ returns-then-v-4 c =
     let t-range : InRange 1075 (scaled tried) = in_range tried number c.if-v-2.false c.if-v-3.false in
     let k_of : ℤ = floor (scaled tried) in
     let k_few : mag k_of < 1076 = few k_of (range_exponent 1075 _ t-range) in
-    let back : to_z w64 (of_z w64 c.floor-k.result) ≡ k_of = ap (λ (z : ℤ). to_z w64 (of_z w64 z)) c.floor-k.ensures ∙ to_z-of_z w64 k_of (let h = k_few in few_fits k_of (omega arith)) in
+    let back : to_z w64 (of_z w64 c.floor-k.result) ≡ k_of =
+    ap (λ (z : ℤ). to_z w64 (of_z w64 z)) c.floor-k.ensures ∙ to_z-of_z w64 k_of (let h = k_few in few_fits k_of (omega arith)) in
     let p-is : c.horner-p.result ≡ sum_at tried k_of = c.horner-p.ensures ∙ sum_E _ c.table_e-table.ensures _ ∙ ap (sum_at tried) back in
     let far-back : to_z w64 (of_z w64 (to_z w64 (of_z w64 c.floor-k.result) +ℤ pos 200)) ≡ k_of +ℤ pos 200 =
     ap (λ (z : ℤ). to_z w64 (of_z w64 (z +ℤ pos 200))) back

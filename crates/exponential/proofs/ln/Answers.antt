@@ -1,5 +1,6 @@
 -- `exponential::ln`: the four tests leave a float above 0, whose digits and exponent `taken_apart` reads (Mantissas). Assumes nothing.
-use Rattle.std.proofs.Common.{◌≡◌, ℕ, zero, suc, ◌+◌, ◌<◌, ◌≤◌, true, false, not, T, ℤ, pos, ◌-ℤ◌, sym, refl, ap, ◌∙◌, subst, lt_of_not-le, arith, w64, SFits, to_z, of_z, le-ltb, lt-ltb}
+use Rattle.std.proofs.Common.{◌≡◌, ℕ, zero, suc, ◌+◌, ◌<◌, ◌≤◌, true, false, not, T, ℤ, pos}
+use Rattle.std.proofs.Common.{◌-ℤ◌, sym, refl, ap, ◌∙◌, subst, lt_of_not-le, arith, w64, SFits, to_z, of_z, le-ltb, lt-ltb}
 use native.Mathlib.Decide.{dec_le}
 use lib.Signed.{mag}
 use lib.Ieee.{Float, nan, inf, fin, binary64, fits, is_nan, of_bits, div, neg, round}
@@ -98,7 +99,8 @@ float_from_bits-d c =
     let digits : Digits c.args.v c.taken_apart-p.result.digits c.taken_apart-p.result.size =
     subst (λ (r : Parts). Digits c.args.v r.digits r.size) (sym c.taken_apart-p.ensures)
     (digits_of c.args.v held is_pos) in
-    let mant : of_bits binary64 (c.taken_apart-p.result.digits + 4602678819172646912) ≡ mantissa c.args.v = mant_is c.args.v c.taken_apart-p.result.digits c.taken_apart-p.result.size held is_pos digits in
+    let mant : of_bits binary64 (c.taken_apart-p.result.digits + 4602678819172646912) ≡ mantissa c.args.v =
+    mant_is c.args.v c.taken_apart-p.result.digits c.taken_apart-p.result.size held is_pos digits in
     rw (nan_bits_is, mant) (mant_no_nan c.args.v is_pos)
 
 pub overflow_cast-z : goal.overflow_cast-z
@@ -151,7 +153,8 @@ returns c =
     let digits : Digits c.args.v c.taken_apart-p.result.digits c.taken_apart-p.result.size =
     subst (λ (r : Parts). Digits c.args.v r.digits r.size) (sym c.taken_apart-p.ensures)
     (digits_of c.args.v held is_pos) in
-    let mant : of_bits binary64 (c.taken_apart-p.result.digits + 4602678819172646912) ≡ mantissa c.args.v = mant_is c.args.v c.taken_apart-p.result.digits c.taken_apart-p.result.size held is_pos digits in
+    let mant : of_bits binary64 (c.taken_apart-p.result.digits + 4602678819172646912) ≡ mantissa c.args.v =
+    mant_is c.args.v c.taken_apart-p.result.digits c.taken_apart-p.result.size held is_pos digits in
     let z = c.taken_apart-p.result.size in
     let s = digits.small in
     let v = c.args.v in

@@ -29,7 +29,8 @@ sweep_rows-requires c =
     let told : let A = c.args in fill_refusal A.strikes A.expiries A.grid.now ≡ c.first-number.result =
     let A = c.args in
     sym (c.first-number.ensures ∙ ap (λ (n : ℕ). first (ltb 64 A.strikes || ltb 32 A.expiries) 2 n) c.first.ensures) in
-    let passed : let A = c.args in (A.strikes ≤ 64) × (A.expiries ≤ 32) × (2048 ≤ length A.grid.now) = let A = c.args in fits A.strikes A.expiries A.grid.now (told ∙ c.if-number-ne0.false) in
+    let passed : let A = c.args in (A.strikes ≤ 64) × (A.expiries ≤ 32) × (2048 ≤ length A.grid.now) =
+    let A = c.args in fits A.strikes A.expiries A.grid.now (told ∙ c.if-number-ne0.false) in
     let P = passed in (P.2, P.0, P.1)
 
 pub sweep_columns-requires : goal.sweep_columns-requires
@@ -38,7 +39,8 @@ sweep_columns-requires c =
     let told : let A = c.args in fill_refusal A.strikes A.expiries A.grid.now ≡ c.first-number.result =
     let A = c.args in
     sym (c.first-number.ensures ∙ ap (λ (n : ℕ). first (ltb 64 A.strikes || ltb 32 A.expiries) 2 n) c.first.ensures) in
-    let passed : let A = c.args in (A.strikes ≤ 64) × (A.expiries ≤ 32) × (2048 ≤ length A.grid.now) = let A = c.args in fits A.strikes A.expiries A.grid.now (told ∙ c.if-number-ne0.false) in
+    let passed : let A = c.args in (A.strikes ≤ 64) × (A.expiries ≤ 32) × (2048 ≤ length A.grid.now) =
+    let A = c.args in fits A.strikes A.expiries A.grid.now (told ∙ c.if-number-ne0.false) in
     let P = passed in
     (rw c.sweep_rows.auto.grid P.2, P.0, P.1)
 

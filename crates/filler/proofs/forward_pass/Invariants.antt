@@ -8,7 +8,9 @@ use lib.Ieee.{nan}
 use Rattle.filler.proofs.forward_pass.Given as goal
 
 abbrev pub invariant-loop-j : goal.invariant-loop-j
-invariant-loop-j l = (l.n ≡ length l.initial.row) × (l.j ≤ l.n) × (length l.row ≡ length l.initial.row) × (take l.j l.row ++ forward l.last (drop l.j l.row) ≡ forward nan l.initial.row)
+invariant-loop-j l =
+    (l.n ≡ length l.initial.row) × (l.j ≤ l.n) × (length l.row ≡ length l.initial.row)
+    × (take l.j l.row ++ forward l.last (drop l.j l.row) ≡ forward nan l.initial.row)
 
 abbrev pub decreases-loop-j : goal.decreases-loop-j
 decreases-loop-j l = l.n - l.j

@@ -37,7 +37,8 @@ slice_bounds-scatter-end c =
     let few : length (take c.args.expiries blank) ≡ c.args.expiries = length-take-le c.args.expiries blank c.requires.1 in
     let rest : List Float = drop c.args.expiries blank in
     let sized : length c.gather_swept.new.cells ≡ c.args.expiries = c.gather_swept.auto.cells ∙ few in
-    let front : length (take c.args.expiries (c.gather_swept.new.cells ++ rest)) ≡ c.args.expiries = ap (λ (l : List Float). length l) (take_at c.gather_swept.new.cells rest c.args.expiries sized) ∙ sized in
+    let front : length (take c.args.expiries (c.gather_swept.new.cells ++ rest)) ≡ c.args.expiries =
+    ap (λ (l : List Float). length l) (take_at c.gather_swept.new.cells rest c.args.expiries sized) ∙ sized in
     sym front
 
 pub scatter-requires : goal.scatter-requires
@@ -45,7 +46,8 @@ scatter-requires c =
     let few : length (take c.args.expiries blank) ≡ c.args.expiries = length-take-le c.args.expiries blank c.requires.1 in
     let rest : List Float = drop c.args.expiries blank in
     let sized : length c.gather_swept.new.cells ≡ c.args.expiries = c.gather_swept.auto.cells ∙ few in
-    let front : length (take c.args.expiries (c.gather_swept.new.cells ++ rest)) ≡ c.args.expiries = ap (λ (l : List Float). length l) (take_at c.gather_swept.new.cells rest c.args.expiries sized) ∙ sized in
+    let front : length (take c.args.expiries (c.gather_swept.new.cells ++ rest)) ≡ c.args.expiries =
+    ap (λ (l : List Float). length l) (take_at c.gather_swept.new.cells rest c.args.expiries sized) ∙ sized in
     (rw front c.requires.1, c.requires.2, c.requires.0)
 
 pub shape_of-grid : goal.shape_of-grid

@@ -13,12 +13,26 @@ returns-then-k-eq17 c =
 pub returns-then-k-eq18 : goal.returns-then-k-eq18
 unfolding frame_of is_frame
 returns-then-k-eq18 c =
-    simp (c.requires.s_len, c.requires.s_value, sym c.kind-k.ensures ∙ c.if-k-eq18.true, c.float_at-strike.ensures, c.float_at-expiry.ensures, c.float_at-value.ensures)
+    simp (
+      c.requires.s_len,
+      c.requires.s_value,
+      sym c.kind-k.ensures ∙ c.if-k-eq18.true,
+      c.float_at-strike.ensures,
+      c.float_at-expiry.ensures,
+      c.float_at-value.ensures,
+    )
 
 pub returns-then-k-eq19 : goal.returns-then-k-eq19
 unfolding frame_of is_frame
 returns-then-k-eq19 c =
-    simp (c.requires.s_len, c.requires.s_value, sym c.kind-k.ensures ∙ c.if-k-eq19.true, c.float_at-strike.ensures, c.float_at-expiry.ensures, c.float_at-value.ensures)
+    simp (
+      c.requires.s_len,
+      c.requires.s_value,
+      sym c.kind-k.ensures ∙ c.if-k-eq19.true,
+      c.float_at-strike.ensures,
+      c.float_at-expiry.ensures,
+      c.float_at-value.ensures,
+    )
 
 pub returns : goal.returns
 unfolding frame_of is_frame

@@ -10,7 +10,8 @@ use Rattle.lines.proofs.feed.Given as goal
 
 abbrev pub invariant-loop-heard : goal.invariant-loop-heard
 invariant-loop-heard l = (l.lines ≡ feeds l.chunk) × (19 * l.lines ≤ length l.initial.out) × (l.initial.p.at ≡ 0)
-    × Hearing (place l.initial.p (columns_of l.initial.strikes l.initial.expiries l.initial.volatilities) l.initial.out) l.chunk (place l.p (columns_of l.strikes l.expiries l.volatilities) l.out) l.from l.heard
+    × Hearing (place l.initial.p (columns_of l.initial.strikes l.initial.expiries l.initial.volatilities) l.initial.out) l.chunk
+    (place l.p (columns_of l.strikes l.expiries l.volatilities) l.out) l.from l.heard
 
 abbrev pub decreases-loop-heard : goal.decreases-loop-heard
 decreases-loop-heard l = l.lines - l.heard

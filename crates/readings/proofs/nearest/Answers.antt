@@ -39,7 +39,8 @@ loop-i-preserved-then-away_from c =
       I.1,
       omega arith,
       lead_move A.spot (take A.n A.axis.now) _ _ I.1 (omega arith)
-          (tested A.spot A.axis.now A.n _ _ _ _ true (omega arith) (omega (arith, I.3.within)) c.away_from.ensures c.away_from-in-loop-i.ensures c.if-away_from.true) I.3,
+          (tested A.spot A.axis.now A.n _ _ _ _ true (omega arith) (omega (arith, I.3.within)) c.away_from.ensures c.away_from-in-loop-i.ensures
+          c.if-away_from.true) I.3,
     )
 
 pub loop-i-preserved : goal.loop-i-preserved
@@ -50,7 +51,8 @@ loop-i-preserved c =
       I.1,
       omega arith,
       lead_keep A.spot (take A.n A.axis.now) _ _
-          (tested A.spot A.axis.now A.n _ _ _ _ false (omega arith) (omega (arith, I.3.within)) c.away_from.ensures c.away_from-in-loop-i.ensures c.if-away_from.false) I.3,
+          (tested A.spot A.axis.now A.n _ _ _ _ false (omega arith) (omega (arith, I.3.within)) c.away_from.ensures c.away_from-in-loop-i.ensures
+          c.if-away_from.false) I.3,
     )
 
 pub returns : goal.returns

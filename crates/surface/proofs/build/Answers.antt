@@ -17,7 +17,8 @@ unfolding is_small
 returns-then-number-ne0 c =
     let lent : Columns = columns_of c.args.strikes.now c.args.expiries.now c.args.volatilities.now in
     let into : Buffers = buffers_of c.args.strike_axis.now c.args.expiry_axis.now c.args.grid.now c.args.counts.now in
-    let checked : refusal lent c.args.count into ≡ c.prepare-p.result.number = told lent c.args.count into _ c.is_small-small.ensures ∙ sym c.prepare-p.ensures.checked in
+    let checked : refusal lent c.args.count into ≡ c.prepare-p.result.number =
+    told lent c.args.count into _ c.is_small-small.ensures ∙ sym c.prepare-p.ensures.checked in
     refused_by _ _ _ _ checked c.if-number-ne0.true
 
 pub slice_bounds-ks-end : goal.slice_bounds-ks-end
@@ -45,7 +46,8 @@ unfolding is_small
 write-requires c =
     let lent : Columns = columns_of c.args.strikes.now c.args.expiries.now c.args.volatilities.now in
     let into : Buffers = buffers_of c.args.strike_axis.now c.args.expiry_axis.now c.args.grid.now c.args.counts.now in
-    let checked : refusal lent c.args.count into ≡ c.prepare-p.result.number = told lent c.args.count into _ c.is_small-small.ensures ∙ sym c.prepare-p.ensures.checked in
+    let checked : refusal lent c.args.count into ≡ c.prepare-p.result.number =
+    told lent c.args.count into _ c.is_small-small.ensures ∙ sym c.prepare-p.ensures.checked in
     record {
       unchecked = checked ∙ c.if-number-ne0.false;
       strikes = c.prepare-p.ensures.strikes c.if-number-ne0.false;
@@ -69,7 +71,8 @@ unfolding is_small
 returns c =
     let lent : Columns = columns_of c.args.strikes.now c.args.expiries.now c.args.volatilities.now in
     let into : Buffers = buffers_of c.args.strike_axis.now c.args.expiry_axis.now c.args.grid.now c.args.counts.now in
-    let checked : refusal lent c.args.count into ≡ c.prepare-p.result.number = told lent c.args.count into _ c.is_small-small.ensures ∙ sym c.prepare-p.ensures.checked in
+    let checked : refusal lent c.args.count into ≡ c.prepare-p.result.number =
+    told lent c.args.count into _ c.is_small-small.ensures ∙ sym c.prepare-p.ensures.checked in
     let axes-in : let p = c.prepare-p in (p.result.columns ≤ length p.new.ks) × (p.result.rows ≤ length p.new.ts) = c.prepare-p.ensures.long in
     let P = c.prepare-p.ensures in
     let z = c.if-number-ne0.false in

@@ -10,7 +10,12 @@ use Rattle.surface.proofs.fill_cells.Goals as goal
 pub tally-requires : goal.tally-requires
 unfolding of_bits round
 tally-requires c =
-    record { ks_len_bound = (c.requires.in_bounds.2, c.requires.in_bounds.3, refl, refl); n_bound = c.requires.n_bound; on_axes = c.requires.on_axes; blank = λ p h. (get_or-replicate 2048 p (of_bits binary64 0) nan h, get_or-replicate 2048 p 0 0 h) }
+    record {
+      ks_len_bound = (c.requires.in_bounds.2, c.requires.in_bounds.3, refl, refl);
+      n_bound = c.requires.n_bound;
+      on_axes = c.requires.on_axes;
+      blank = λ p h. (get_or-replicate 2048 p (of_bits binary64 0) nan h, get_or-replicate 2048 p 0 0 h);
+    }
 
 pub slice_bounds-write_rows-end : goal.slice_bounds-write_rows-end
 slice_bounds-write_rows-end c = sym c.tally.auto.sums

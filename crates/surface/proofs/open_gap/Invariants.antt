@@ -6,7 +6,8 @@ use lib.ListN.{length}
 use Rattle.surface.proofs.open_gap.Given as goal
 
 abbrev pub invariant-loop-j : goal.invariant-loop-j
-invariant-loop-j l = (l.p ≤ l.j) × (l.j ≤ l.n) × (l.n < length l.a) × (length l.a ≡ length l.initial.a) × (opened l.a l.j l.n l.carry ≡ opened l.initial.a l.p l.n l.x)
+invariant-loop-j l =
+    (l.p ≤ l.j) × (l.j ≤ l.n) × (l.n < length l.a) × (length l.a ≡ length l.initial.a) × (opened l.a l.j l.n l.carry ≡ opened l.initial.a l.p l.n l.x)
 
 abbrev pub decreases-loop-j : goal.decreases-loop-j
 decreases-loop-j l = l.n - l.j

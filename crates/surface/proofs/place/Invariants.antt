@@ -7,7 +7,8 @@ use lib.ListN.{length}
 use Rattle.surface.proofs.place.Given as goal
 
 abbrev pub invariant-loop-size : goal.invariant-loop-size
-invariant-loop-size l = (l.at ≤ first_where (λ a. reaches a l.x) l.axis) × (first_where (λ a. reaches a l.x) l.axis ≤ l.at + l.size) × (l.at + l.size ≤ length l.axis)
+invariant-loop-size l =
+    (l.at ≤ first_where (λ a. reaches a l.x) l.axis) × (first_where (λ a. reaches a l.x) l.axis ≤ l.at + l.size) × (l.at + l.size ≤ length l.axis)
 
 abbrev pub decreases-loop-size : goal.decreases-loop-size
 decreases-loop-size l = l.size

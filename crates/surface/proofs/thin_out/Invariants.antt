@@ -7,7 +7,9 @@ use lib.ListN.{length, take, drop}
 use Rattle.surface.proofs.thin_out.Given as goal
 
 abbrev pub invariant-loop-i : goal.invariant-loop-i
-invariant-loop-i l = (l.kept ≤ l.i) × (l.i ≤ l.n) × (length l.a ≡ length l.initial.a) × (take l.kept l.a ++ kept_after l.last (drop l.i (take l.n l.a)) ≡ thinned (take l.n l.initial.a))
+invariant-loop-i l =
+    (l.kept ≤ l.i) × (l.i ≤ l.n) × (length l.a ≡ length l.initial.a)
+    × (take l.kept l.a ++ kept_after l.last (drop l.i (take l.n l.a)) ≡ thinned (take l.n l.initial.a))
 
 abbrev pub decreases-loop-i : goal.decreases-loop-i
 decreases-loop-i l = l.n - l.i

@@ -7,7 +7,11 @@ pub fill_cells-requires : goal.fill_cells-requires
 fill_cells-requires c =
     let P = fitting c.requires in
     let S = P.sound in
-    record { in_bounds = (P.long_grid, P.long_counts, narrow c.requires, low c.requires); n_bound = (S.few, S.strikes, S.expiries, S.volatilities); on_axes = made_placed c.requires }
+    record {
+      in_bounds = (P.long_grid, P.long_counts, narrow c.requires, low c.requires);
+      n_bound = (S.few, S.strikes, S.expiries, S.volatilities);
+      on_axes = made_placed c.requires;
+    }
 
 pub copy_front-requires : goal.copy_front-requires
 copy_front-requires c =

@@ -40,7 +40,8 @@ hand_on-requires c =
 pub returns-in_default : goal.returns-in_default
 returns-in_default c =
     let none-holds : let a = c.args in offer_refusal a.short a.b a.o ≡ none = sym c.offer_number-number.ensures ∙ c.if-number-ne0.false in
-    let settled : let a = c.args in outcome_of_implied c.answer-answer.result ≡ offer_outcome bsm a.short a.b a.o = let a = c.args in c.answer-answer.ensures.outcome ∙ by_terms bsm a.short a.b a.o none-holds in
+    let settled : let a = c.args in outcome_of_implied c.answer-answer.result ≡ offer_outcome bsm a.short a.b a.o =
+    let a = c.args in c.answer-answer.ensures.outcome ∙ by_terms bsm a.short a.b a.o none-holds in
     rw settled at c.hand_on.ensures
 
 pub kept-requires : goal.kept-requires
@@ -57,6 +58,7 @@ pub returns : goal.returns
 unfolding outcome_of_implied book_after
 returns c =
     let none-holds : let a = c.args in offer_refusal a.short a.b a.o ≡ none = sym c.offer_number-number.ensures ∙ c.if-number-ne0.false in
-    let settled : let a = c.args in outcome_of_implied c.answer-answer.result ≡ offer_outcome bsm a.short a.b a.o = let a = c.args in c.answer-answer.ensures.outcome ∙ by_terms bsm a.short a.b a.o none-holds in
+    let settled : let a = c.args in outcome_of_implied c.answer-answer.result ≡ offer_outcome bsm a.short a.b a.o =
+    let a = c.args in c.answer-answer.ensures.outcome ∙ by_terms bsm a.short a.b a.o none-holds in
     let t = ap outcome_of_implied (sym c.in-Found.is) ∙ settled in
     record { outcome = t; book = c.kept.ensures ∙ ap (book_after c.args.b) t }
