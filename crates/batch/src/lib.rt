@@ -1,12 +1,14 @@
 // Whole trays: a fresh book hears a list of offers from lent slices, and a surface is built of what it kept.
 #![tactic(auto)]
 
-ghost use Rattle.std.specs.Prelude.{◌≡◌, ◌<◌, ◌≤◌, length};
-ghost use Rattle.ledger.specs.Book.{columns_of};
-ghost use Rattle.ledger.specs.Build.{buffers_of};
-ghost use Rattle.trays.specs.Tray.{offers, answers, HearsAll, lent, heard_offers, QuotesTray};
+ghost use Rattle.std.specs.Prelude.{◌<◌, ◌≤◌, length};
+ghost use Rattle.admission.specs.Lent.{buffers_in, SameBuffers};
+ghost use Rattle.book.specs.Lent.{columns_held, SameColumns};
+ghost use Rattle.trays.specs.Tray.{offers, answers, HearsAll, lent, heard_offers, reply_of, QuotesTray};
 
-use ledger::{Book, Opened};
+use admission::SurfaceBuffers;
+use book::QuoteColumns;
+use ledger::{Book, Opening, Unopened};
 use rows::{evidence_of, numbers_of, offer_of, shortest};
 use trays::Tray;
 
@@ -18,91 +20,51 @@ fn hear_all(
     figures: &[[f64; 3]],
     numbers: &mut [[u64; 2]],
     evidence: &mut [[f64; 4]],
-    strikes: &mut [f64],
-    expiries: &mut [f64],
-    volatilities: &mut [f64],
+    columns: &mut QuoteColumns<'_>,
 ) -> Book
     requires { (n ≤ length kinds.now) × (n ≤ length figures.now) × (n ≤ length numbers.old) × (n ≤ length evidence.old) }
-    ensures { HearsAll
-        (record { book = book; columns = columns_of strikes.old expiries.old volatilities.old })
+    ensures same_memory { SameColumns columns.new columns.old }
+    ensures hears { HearsAll
+        (record { book = book; columns = columns_held columns.old })
         (offers kinds.now figures.now n)
         (answers numbers.old evidence.old)
         result
-        (columns_of strikes.new expiries.new volatilities.new)
+        (columns_held columns.new)
         (answers numbers.new evidence.new) }
 {
     let mut b = book;
-    let mut i: usize = 0;
-    while i < n {
-        let kind = kinds[i];
-        let row = figures[i];
-        let heard = book::offer(b, offer_of(kind, row), strikes, expiries, volatilities);
-        let answer = heard.answer;
-        let counted = numbers_of(answer);
-        let shown = evidence_of(answer);
-        numbers[i] = counted;
-        evidence[i] = shown;
+    for i in 0..n {
+        let heard = book::offer(b, offer_of(kinds[i], figures[i]), columns);
+        numbers[i] = numbers_of(heard.answer);
+        evidence[i] = evidence_of(heard.answer);
         b = heard.book;
-        i += 1;
     }
     b
 }
 
-// A whole tray: opens a fresh book, hears the list, builds. An offer is a row of `kinds` (a price or a volatility, of a put or a call) and one of
-// `figures` (strike, expiry, value); its answer a row of `numbers` (0 for accepted, evaluations) and one of `evidence` (volatility, error, point c and its
-// error).
+// A whole tray: opens a fresh book, hears the list, builds. Offers and answers are four slices of rows, as the C interface needs it. An offer is a row of
+// `kinds` (a price or a volatility, of a put or a call) and one of `figures` (strike, expiry, value); its answer a row of `numbers` (0 for accepted,
+// evaluations) and one of `evidence` (volatility, error, point c and its error).
 pub fn quote_tray(
-    spot: f64,
-    rate: f64,
+    opening: Opening,
     kinds: &[[bool; 2]],
     figures: &[[f64; 3]],
     numbers: &mut [[u64; 2]],
     evidence: &mut [[f64; 4]],
-    strikes: &mut [f64],
-    expiries: &mut [f64],
-    volatilities: &mut [f64],
-    strike_axis: &mut [f64],
-    expiry_axis: &mut [f64],
-    grid: &mut [f64],
-    counts: &mut [u64],
-) -> Tray
-    ensures { QuotesTray (record { spot = spot; rate = rate })
+    columns: &mut QuoteColumns<'_>,
+    buffers: &mut SurfaceBuffers<'_>,
+) -> Result<Tray, Unopened>
+    ensures same_columns { SameColumns columns.new columns.old }
+    ensures same_buffers { SameBuffers buffers.new buffers.old }
+    ensures quotes { QuotesTray opening
         (heard_offers kinds.now figures.now (answers numbers.old evidence.old))
-        (lent (answers numbers.old evidence.old)
-        (columns_of strikes.old expiries.old volatilities.old)
-        (buffers_of strike_axis.old expiry_axis.old grid.old counts.old))
-        result
-        (lent (answers numbers.new evidence.new)
-        (columns_of strikes.new expiries.new volatilities.new)
-        (buffers_of strike_axis.new expiry_axis.new grid.new counts.new)) }
+        (lent (answers numbers.old evidence.old) (columns_held columns.old) (buffers_in buffers.old))
+        (reply_of result)
+        (lent (answers numbers.new evidence.new) (columns_held columns.new) (buffers_in buffers.new)) }
 {
-    let opened = book::open(spot, rate);
-    match opened {
-        Opened::Refused { number, book } => Tray::Refused { number, book },
-        Opened::Fresh { book } => {
-            let n = shortest(kinds.len(), figures.len(), numbers.len(), evidence.len());
-            let after = hear_all(
-                book,
-                n,
-                kinds,
-                figures,
-                numbers,
-                evidence,
-                strikes,
-                expiries,
-                volatilities,
-            );
-            let built = book::build(
-                after,
-                &strikes[..],
-                &expiries[..],
-                &volatilities[..],
-                strike_axis,
-                expiry_axis,
-                grid,
-                counts,
-            );
-            Tray::Quoted { book: after, built }
-        }
-    }
+    let fresh = book::open(opening)?;
+    let n = shortest(kinds.len(), figures.len(), numbers.len(), evidence.len());
+    let book = hear_all(fresh, n, kinds, figures, numbers, evidence, columns);
+    let built = book::build(book, columns, buffers);
+    Ok(Tray { book, built })
 }

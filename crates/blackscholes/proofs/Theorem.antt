@@ -3,7 +3,6 @@ use Rattle.std.specs.Prelude.{if◌then◌else◌}
 use mathlib.Core.Path.{◌≡◌, refl, sym, ap, subst}
 use mathlib.Core.Bool.{true, false, not}
 use Prim.Native.Nat.{ℕ}
-use native.Mathlib.Omega.{arith}
 use lib.Dec.{eqb}
 use lib.Ieee.{Float}
 use Rattle.floats.specs.Operators.{decimal}
@@ -12,6 +11,7 @@ use Rattle.limits.specs.Ranges.{is_price, is_spot, is_strike, is_expiry, is_rate
 use Rattle.limits.specs.Checks.{first, none}
 use Rattle.limits.specs.Outcome.{refused, answered}
 use Rattle.limits.proofs.Checks.{first_holds, first_passes}
+use Rattle.limits.proofs.Refusals.{outcome_read}
 use Rattle.brent.specs.declared.Solution.{Solution}
 use Rattle.brent.specs.declared.Solver.{Solver}
 use Rattle.brent.specs.Outcome.{Reply, ended, zeros}
@@ -21,14 +21,11 @@ use Rattle.brent.specs.Claim as brent
 use Rattle.brent.proofs.Theorem as theorem
 use Rattle.blackscholes.specs.Model.{at_volatility, price}
 use Rattle.blackscholes.specs.Greeks.{greeks}
-use Rattle.blackscholes.specs.Checks.{option_refusal, refusal, outcome_of_price, pricing, no_greeks, outcome_of_greeks, sensitivities}
-use Rattle.blackscholes.specs.Implied.{implied_refusal, outcome_of_implied, implied}
+use Rattle.blackscholes.specs.Checks.{option_refusal, refusal, pricing, no_greeks, sensitivities}
+use Rattle.blackscholes.specs.Implied.{implied_refusal, implied}
 use Rattle.blackscholes.specs.Claim.{OfOption, by_6, by_7, by_8, by_9, InRange, OfModel, OfImplied}
 use Rattle.blackscholes.specs.Claim.{Blank, PriceAnswer, GreeksAnswer, ImpliedAnswer, Claim}
 use Rattle.blackscholes.specs.declared.OptionParams.{OptionParams}
-use Rattle.blackscholes.specs.declared.Priced.{Priced}
-use Rattle.blackscholes.specs.declared.Sensitivities.{Sensitivities}
-use Rattle.blackscholes.specs.declared.Implied.{Implied}
 
 -- ---- the lines of the chain, one after the other
 module _ (p : OptionParams) (rest : ℕ) where
@@ -131,35 +128,6 @@ implied_blank market p r (ImpliedAnswer.solved t i) k y s e =
     let z = (((theorem.claim).modelled market (λ v. price (at_volatility p v))).ran.refusal e).1 in
     subst (brent.Blank y.evaluations) (sym z) ((theorem.claim).blank y.evaluations)
 
--- ---- the readings
-price_read : (a b : Priced) → outcome_of_price a ≡ outcome_of_price b → a ≡ b
-unfolding outcome_of_price
-price_read (Priced.Price v) (Priced.Price w) e = cc
-price_read (Priced.Price v) (Priced.Refused k) e = absurd (let z : ◌≡◌ {A = ℕ} 0 1 = cc in omega arith)
-price_read (Priced.Refused j) (Priced.Price w) e = absurd (let z : ◌≡◌ {A = ℕ} 0 1 = cc in omega arith)
-price_read (Priced.Refused j) (Priced.Refused k) e = cc
-
-greeks_read : (a b : Sensitivities) → outcome_of_greeks a ≡ outcome_of_greeks b → a ≡ b
-unfolding outcome_of_greeks
-greeks_read (Sensitivities.Found g) (Sensitivities.Found h) e = cc
-greeks_read (Sensitivities.Found g) (Sensitivities.Refused k) e = absurd (let z : ◌≡◌ {A = ℕ} 0 1 = cc in omega arith)
-greeks_read (Sensitivities.Refused j) (Sensitivities.Found h) e = absurd (let z : ◌≡◌ {A = ℕ} 0 1 = cc in omega arith)
-greeks_read (Sensitivities.Refused j) (Sensitivities.Refused k) e = cc
-
-same_count : (n m : ℕ) → zeros n ≡ zeros m → n ≡ m
-unfolding zeros
-same_count n m e = ap (λ (x : Solution). x.evaluations) e
-
-refused_alike : (j n k m : ℕ) → refused j (zeros n) ≡ refused k (zeros m) → Implied.Refused j n ≡ Implied.Refused k m
-refused_alike j n k m e = cc (same_count n m (cc))
-
-implied_read : (a b : Implied) → outcome_of_implied a ≡ outcome_of_implied b → a ≡ b
-unfolding outcome_of_implied
-implied_read (Implied.Found x) (Implied.Found y) e = cc
-implied_read (Implied.Found x) (Implied.Refused k m) e = absurd (let z : ◌≡◌ {A = ℕ} 0 1 = cc in omega arith)
-implied_read (Implied.Refused j n) (Implied.Found y) e = absurd (let z : ◌≡◌ {A = ℕ} 0 1 = cc in omega arith)
-implied_read (Implied.Refused j n) (Implied.Refused k m) e = refused_alike j n k m e
-
 -- THE CLAIM
 pub claim : Claim
 claim =
@@ -168,7 +136,7 @@ claim =
       greeks_answer = greeks_answer;
       implied_answer = implied_answer;
       implied_blank = λ market p e. implied_blank market p (implied market p) (implied_answer market p) _ _ _ e;
-      price_read = price_read;
-      greeks_read = greeks_read;
-      implied_read = implied_read;
+      price_read = outcome_read (decimal 0 1);
+      greeks_read = outcome_read no_greeks;
+      implied_read = theorem.implied_read;
     }

@@ -1,15 +1,15 @@
 -- What price and greeks refuse, and what they answer in document 01's terms.
-use Rattle.std.specs.Prelude.{ℕ, not, Float}
+use Rattle.std.specs.Prelude.{ℕ, not, Float, Result}
 use Rattle.floats.specs.Operators.{decimal}
 use Rattle.limits.specs.Ranges.{is_spot, is_strike, is_expiry, is_rate, is_volatility}
 use Rattle.limits.specs.Checks.{first, none}
-use Rattle.limits.specs.Outcome.{Outcome, done, refused, answered}
+use Rattle.limits.specs.Outcome.{Outcome, answered}
+use Rattle.limits.specs.Refusals.{outcome_with}
+use Rattle.limits.specs.declared.Refusal.{Refusal}
 use Rattle.blackscholes.specs.Model.{price}
 use Rattle.blackscholes.specs.Greeks.{greeks}
 use Rattle.blackscholes.specs.declared.OptionParams.{OptionParams}
 use Rattle.blackscholes.specs.declared.Greeks.{Greeks}
-use Rattle.blackscholes.specs.declared.Priced.{Priced}
-use Rattle.blackscholes.specs.declared.Sensitivities.{Sensitivities}
 
 -- 6 to 9: spot, strike, expiry and rate, then what follows.
 unfoldable pub option_refusal : OptionParams → ℕ → ℕ
@@ -26,9 +26,8 @@ refusal p = option_refusal p (first (not (is_volatility p.volatility)) 10 none)
 
 -- ---- the answers in document 01's terms
 -- The price, or a number beside 0.0.
-unfoldable pub outcome_of_price : Priced → Outcome Float
-outcome_of_price (Priced.Price value) = done value
-outcome_of_price (Priced.Refused number) = refused number (decimal 0 1)
+abbrev pub outcome_of_price : Result Float Refusal → Outcome Float
+outcome_of_price answer = outcome_with (decimal 0 1) answer
 
 unfoldable pub pricing : OptionParams → Outcome Float
 unfolding refusal
@@ -38,9 +37,8 @@ pricing p = answered (refusal p) (decimal 0 1) (price p)
 abbrev pub no_greeks : Greeks
 no_greeks = let o = decimal 0 1 in record { delta = o; gamma = o; theta = o; vega = o; rho = o; vanna = o; volga = o }
 
-unfoldable pub outcome_of_greeks : Sensitivities → Outcome Greeks
-outcome_of_greeks (Sensitivities.Found greeks) = done greeks
-outcome_of_greeks (Sensitivities.Refused number) = refused number no_greeks
+abbrev pub outcome_of_greeks : Result Greeks Refusal → Outcome Greeks
+outcome_of_greeks answer = outcome_with no_greeks answer
 
 unfoldable pub sensitivities : OptionParams → Outcome Greeks
 unfolding refusal

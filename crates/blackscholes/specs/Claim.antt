@@ -1,5 +1,5 @@
 -- What document 01 says of the calls: when each of 5 to 10 is given, that a refusal's values are 0.0, and that nothing of an answer is lost in its reading.
-use Rattle.std.specs.Prelude.{ℕ, ◌≡◌, true, false, Float}
+use Rattle.std.specs.Prelude.{ℕ, ◌≡◌, true, false, Float, Result}
 use Rattle.floats.specs.Operators.{decimal}
 use Rattle.limits.specs.Ranges.{is_price, is_spot, is_strike, is_expiry, is_rate, is_volatility}
 use Rattle.limits.specs.Outcome.{Outcome, done, refused}
@@ -15,9 +15,8 @@ use Rattle.blackscholes.specs.Checks.{outcome_of_price, pricing, outcome_of_gree
 use Rattle.blackscholes.specs.Implied.{outcome_of_implied, implied}
 use Rattle.blackscholes.specs.declared.OptionParams.{OptionParams}
 use Rattle.blackscholes.specs.declared.Greeks.{Greeks}
-use Rattle.blackscholes.specs.declared.Priced.{Priced}
-use Rattle.blackscholes.specs.declared.Sensitivities.{Sensitivities}
-use Rattle.blackscholes.specs.declared.Implied.{Implied}
+use Rattle.brent.specs.declared.Unsolved.{Unsolved}
+use Rattle.limits.specs.declared.Refusal.{Refusal}
 
 -- ---- "stops at the first that holds; the number is given in no other circumstance": each number where its own range fails and those before it hold
 pub data OfOption (p : OptionParams) : ℕ → Type 0 where
@@ -73,6 +72,6 @@ pub record Claim : Type 0 where
   pub implied_blank : (market : Float) (p : OptionParams) {n : ℕ} {x : Solution} {s : Solver} → implied market p ≡ ended (refused n x) s
       → brent.Blank x.evaluations x
   -- Nothing of an answer is lost in its reading.
-  pub price_read : (a b : Priced) → outcome_of_price a ≡ outcome_of_price b → a ≡ b
-  pub greeks_read : (a b : Sensitivities) → outcome_of_greeks a ≡ outcome_of_greeks b → a ≡ b
-  pub implied_read : (a b : Implied) → outcome_of_implied a ≡ outcome_of_implied b → a ≡ b
+  pub price_read : (a b : Result Float Refusal) → outcome_of_price a ≡ outcome_of_price b → a ≡ b
+  pub greeks_read : (a b : Result Greeks Refusal) → outcome_of_greeks a ≡ outcome_of_greeks b → a ≡ b
+  pub implied_read : (a b : Result Solution Unsolved) → outcome_of_implied a ≡ outcome_of_implied b → a ≡ b

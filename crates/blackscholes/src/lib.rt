@@ -2,9 +2,7 @@
 // answers. Crate `greeks` has the functions.
 #![tactic(auto)]
 
-use brent::Solution;
-
-#[derive(Clone, Copy)]
+#[derive(Clone, Copy, Debug, PartialEq, Eq)]
 pub enum OptionType {
     Call,
     Put,
@@ -29,23 +27,4 @@ pub struct Greeks {
     pub rho: f64,
     pub vanna: f64,
     pub volga: f64,
-}
-
-#[derive(Clone, Copy)]
-pub enum Priced {
-    Price { value: f64 },
-    Refused { number: u64 },
-}
-
-#[derive(Clone, Copy)]
-pub enum Sensitivities {
-    Found { greeks: Greeks },
-    Refused { number: u64 },
-}
-
-// A solved volatility with its evidence.
-#[derive(Clone, Copy)]
-pub enum Implied {
-    Found { solution: Solution },
-    Refused { number: u64, evaluations: u64 },
 }

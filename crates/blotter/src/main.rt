@@ -6,10 +6,15 @@
 // program's run, and so is what it reads and writes.
 #![tactic(auto)]
 
-ghost use Rattle.std.specs.Prelude.{◌+◌, ◌≤◌};
+ghost use Rattle.std.specs.Prelude.{◌≤◌, length};
 
+use admission::SurfaceBuffers;
 use blackscholes::{OptionParams, OptionType};
-use ledger::{Book, Opened};
+use book::QuoteColumns;
+use chart::Lengths;
+use frames::bits_of;
+use ledger::{Book, Opening};
+use readings::Surface;
 use std::io::{Read, Stdin};
 use wording::Request;
 
@@ -17,491 +22,287 @@ const STDOUT_FILENO: i32 = 1;
 
 const STDERR_FILENO: i32 = 2;
 
+// Why the program ends before its input does.
+#[derive(Clone, Copy)]
+enum Failure {
+    Read,
+    Write,
+}
+
 // ---- a line written
 
-fn upper(b: u8) -> u8 {
-    if b > 96 { b - 32 } else { b }
-}
-
 // The 16 digits of a word.
-fn put_word(v: u64, at: usize, text: &mut [u8; 143])
-    requires { at + 16 ≤ 143 }
+fn digits_of(word: u64) -> [u8; 16] {
+    let mut digits = [0; 16];
+    io::hex(word, 16, &mut digits);
+    digits.make_ascii_uppercase();
+    digits
+}
+
+// A line of a name and at most eight words, in one write.
+fn say(name: &[u8; 6], words: &[u64]) -> Result<(), Failure>
+    requires { length words.now ≤ 8 }
 {
-    let mut digits = [0u8; 16];
-    io::hex(v, 16, &mut digits);
-    let mut i = 0;
-    while i < 16 {
-        text[at + i] = upper(digits[i]);
-        i += 1;
-    }
-}
-
-fn put_name(name: &[u8; 6], text: &mut [u8; 143]) {
-    text[0] = name[0];
-    text[1] = name[1];
-    text[2] = name[2];
-    text[3] = name[3];
-    text[4] = name[4];
-    text[5] = name[5];
-}
-
-// The first n bytes are written.
-fn put(text: &[u8; 143], n: usize) -> bool {
-    let all: &[u8] = text;
-    if n > all.len() {
-        return false;
-    }
-    if io::write_all(STDOUT_FILENO, &all[..n]) {
-        return true;
-    }
-    io::write_all(STDERR_FILENO, b"blotter: cannot write\n");
-    false
-}
-
-// A line of a name and at most eight words; nothing after a write that failed.
-fn say(ok: bool, name: &[u8; 6], words: &[u64]) -> bool {
-    let n = words.len();
-    if !ok {
-        return false;
-    }
-    if n > 8 {
-        return false;
-    }
     let mut text = [b' '; 143];
-    put_name(name, &mut text);
-    let mut i = 0;
-    while i < n {
-        put_word(words[i], 7 + 17 * i, &mut text);
-        i += 1;
+    text[..6].copy_from_slice(name);
+    for (i, &word) in words.iter().enumerate() {
+        let at = 7 + 17 * i;
+        text[at..at + 16].copy_from_slice(&digits_of(word));
     }
-    let end = 6 + 17 * n;
+    let end = 6 + 17 * words.len();
     text[end] = b'\n';
-    put(&text, end + 1)
+    if io::write_all(STDOUT_FILENO, &text[..end + 1]) {
+        Ok(())
+    } else {
+        Err(Failure::Write)
+    }
 }
 
 // ---- a line's request
 
-// How many words a line of so many bytes has; 7 where it has no such length.
-fn width(seen: usize) -> usize
-    ensures { result ≤ 7 }
-{
-    if seen < 6 {
-        return 7;
+// A word's text: a space, then digits.
+fn word_of(text: &[u8]) -> Option<u64> {
+    let [b' ', digits @ ..] = text else {
+        return None;
+    };
+    if !digits.iter().all(|&b| frames::is_digit(b)) {
+        return None;
     }
-    if seen > 108 {
-        return 7;
-    }
-    if (seen - 6) % 17 != 0 {
-        return 7;
-    }
-    (seen - 6) / 17
+    let word = digits
+        .iter()
+        .fold(0, |word, &b| (word << 4) | frames::digit_value(b));
+    Some(word)
 }
 
-// A byte at a place of a word: a space, then digits.
-fn stands(place: usize, b: u8) -> bool {
-    if place == 0 {
-        return b == b' ';
+// A line's name and what it asks. No request has more than six words.
+fn asked(line: &[u8]) -> Option<(&[u8; 6], Request)> {
+    let (name, text) = line.split_first_chunk::<6>()?;
+    let count = text.len() / 17;
+    if text.len() % 17 != 0 || count > 6 {
+        return None;
     }
-    frames::is_digit(b)
-}
-
-fn name_of(line: &[u8; 109]) -> [u8; 6] {
-    [line[0], line[1], line[2], line[3], line[4], line[5]]
-}
-
-// What a line of so many bytes asks. The 16 digits of a word push out what its space put in.
-fn line_request(line: &[u8; 109], seen: usize) -> Request {
-    let n = width(seen);
-    if n > 6 {
-        return Request::Bad;
+    let mut words = [0; 6];
+    for (word, digits) in words.iter_mut().zip(text.chunks(17)) {
+        *word = word_of(digits)?;
     }
-    let mut x = [0u64; 6];
-    let mut good = true;
-    let mut i = 0;
-    while i < 17 * n {
-        let b = line[6 + i];
-        let k = i / 17;
-        good = good & stands(i % 17, b);
-        x[k] = (x[k] << 4) | frames::digit_value(b);
-        i += 1;
-    }
-    if !good {
-        return Request::Bad;
-    }
-    requests::request_of(&name_of(line), n, x)
+    let request = requests::request_of(name, &words[..count])?;
+    Some((name, request))
 }
 
 // ---- a line answered
 
-// The book, the lengths of the axes of the surface built last, and whether every write went well.
-#[derive(Clone, Copy)]
-struct State {
+const NOTHING_BUILT: Lengths = Lengths {
+    strikes: 0,
+    expiries: 0,
+};
+
+fn say_axis(name: &[u8; 6], axis: &[f64], count: usize) -> Result<(), Failure> {
+    for &value in axis.iter().take(count) {
+        say(name, &[bits_of(value)])?;
+    }
+    Ok(())
+}
+
+fn say_row(row: &[f64], counts: &[u64], strikes: usize) -> Result<(), Failure> {
+    for (&value, &count) in row.iter().zip(counts).take(strikes) {
+        say(b"cell  ", &slips::cell_words(value, count))?;
+    }
+    Ok(())
+}
+
+// The book with its quotes, and the surface built last with the lengths of its axes.
+#[derive(Drop)]
+struct Blotter<'a> {
     book: Book,
-    strikes: usize,
-    expiries: usize,
-    ok: bool,
+    columns: QuoteColumns<'a>,
+    buffers: SurfaceBuffers<'a>,
+    lengths: Lengths,
 }
 
-// No surface is built of a book that was opened anew.
-fn opened(ok: bool, number: u64, book: Book) -> State {
-    let words = [number];
-    State {
-        book,
-        strikes: 0,
-        expiries: 0,
-        ok: say(ok, b"open  ", &words),
-    }
-}
-
-fn open(ok: bool, spot: f64, rate: f64) -> State {
-    let answer = book::open(spot, rate);
-    match answer {
-        Opened::Fresh { book } => opened(ok, 0, book),
-        Opened::Refused { number, book } => opened(ok, number, book),
-    }
-}
-
-// A book that is not open: 0.0 is no spot.
-fn closed() -> State {
-    let mut s = open(false, 0.0, 0.0);
-    s.ok = true;
-    s
-}
-
-// An option on the book's spot and rate.
-fn on_book(b: Book, kind: OptionType, strike: f64, expiry: f64) -> OptionParams {
-    OptionParams {
-        spot: b.spot,
-        strike,
-        time_to_expiry: expiry,
-        risk_free_rate: b.rate,
-        volatility: 0.0,
-        option_type: kind,
-    }
-}
-
-// What the model answers, and a question mark.
-fn say_alone(ok: bool, request: Request, b: Book) -> bool {
-    match request {
-        Request::Price { option } => {
-            let words = slips::price_words(option);
-            say(ok, b"price ", &words)
+impl Blotter<'_> {
+    // Before any build it has no axis.
+    fn surface(&self) -> Surface<'_> {
+        Surface {
+            strike_axis: self.buffers.strike_axis,
+            expiry_axis: self.buffers.expiry_axis,
+            grid: self.buffers.grid,
+            strikes: self.lengths.strikes,
+            expiries: self.lengths.expiries,
         }
-        Request::Greeks { option } => {
-            let words = slips::greeks_words(option);
-            say(ok, b"greeks", &words)
-        }
-        Request::Ends {
-            kind,
+    }
+
+    // An option on the book's spot and rate.
+    fn on_book(&self, kind: OptionType, strike: f64, expiry: f64) -> OptionParams {
+        OptionParams {
+            spot: self.book.spot,
             strike,
-            expiry,
-            market,
-        } => {
-            let words = slips::ends_words(market, on_book(b, kind, strike, expiry));
-            say(ok, b"ends  ", &words)
-        }
-        Request::Bad => {
-            let none = [0u64; 1];
-            let z = 0;
-            say(ok, b"?     ", &none[..z])
-        }
-        _ => ok,
-    }
-}
-
-// A request that looks at no quote.
-fn answer(s: State, request: Request) -> State {
-    let mut t = s;
-    match request {
-        Request::Open { spot, rate } => {
-            t = open(s.ok, spot, rate);
-        }
-        _ => {
-            t.ok = say_alone(s.ok, request, s.book);
+            time_to_expiry: expiry,
+            risk_free_rate: self.book.rate,
+            volatility: 0.0,
+            option_type: kind,
         }
     }
-    t
-}
 
-// An offer; any other request is passed over.
-fn quote(
-    s: State,
-    request: Request,
-    line: &[u8; 109],
-    strikes: &mut [f64; 1024],
-    expiries: &mut [f64; 1024],
-    volatilities: &mut [f64; 1024],
-) -> State {
-    let Request::Offer { offer } = request else {
-        return s;
-    };
-    let heard = book::offer(s.book, offer, strikes, expiries, volatilities);
-    let answer = heard.answer;
-    let words = slips::offer_words(answer);
-    let book = heard.book;
-    State {
-        book,
-        strikes: s.strikes,
-        expiries: s.expiries,
-        ok: say(s.ok, &name_of(line), &words),
-    }
-}
-
-fn say_axis(ok: bool, name: &[u8; 6], axis: &[f64], n: usize) -> bool {
-    if n > axis.len() {
-        return false;
-    }
-    let mut good = ok;
-    let mut i = 0;
-    while i < n {
-        let words = [frames::bits_of(axis[i])];
-        good = say(good, name, &words);
-        i += 1;
-    }
-    good
-}
-
-// The cells in use, row by row: a row has 64 places.
-fn say_cells(
-    ok: bool,
-    grid: &[f64; 2048],
-    counts: &[u64; 2048],
-    strikes: usize,
-    expiries: usize,
-) -> bool {
-    let mut good = ok;
-    let mut at = 0;
-    while at < 2048 {
-        if (at / 64 < expiries) & (at % 64 < strikes) {
-            let words = slips::cell_words(grid[at], counts[at]);
-            good = say(good, b"cell  ", &words);
+    // No surface is built of a book that was opened anew. Where that is refused the book is closed: 0.0 is no spot.
+    fn open(&mut self, opening: Opening) -> [u64; 1] {
+        self.lengths = NOTHING_BUILT;
+        match book::open(opening) {
+            Ok(book) => {
+                self.book = book;
+                [0]
+            }
+            Err(unopened) => {
+                self.book = unopened.book;
+                [u64::from(unopened.refusal)]
+            }
         }
-        at += 1;
     }
-    good
-}
 
-// The surface that was built, behind the line of the build.
-fn say_surface(
-    ok: bool,
-    words: [u64; 3],
-    strike_axis: &[f64; 64],
-    expiry_axis: &[f64; 32],
-    grid: &[f64; 2048],
-    counts: &[u64; 2048],
-) -> bool {
-    let n = words[1] as usize;
-    let m = words[2] as usize;
-    let first = say(ok, b"build ", &words);
-    let across = say_axis(first, b"strike", strike_axis, n);
-    let down = say_axis(across, b"expiry", expiry_axis, m);
-    say_cells(down, grid, counts, n, m)
-}
+    fn build(&mut self) -> [u64; 3] {
+        let built = book::build(self.book, &self.columns, &mut self.buffers);
+        self.lengths = built.unwrap_or(NOTHING_BUILT);
+        slips::build_words(built)
+    }
 
-// Of the surface built last; before any build it has no axis.
-fn read(
-    s: State,
-    strike: f64,
-    expiry: f64,
-    strike_axis: &[f64; 64],
-    expiry_axis: &[f64; 32],
-    grid: &[f64; 2048],
-) -> State {
-    let words = slips::read_words(readings::interpolate(
-        strike_axis,
-        expiry_axis,
-        grid,
-        s.strikes,
-        s.expiries,
-        strike,
-        expiry,
-    ));
-    let mut t = s;
-    t.ok = say(s.ok, b"read  ", &words);
-    t
-}
-
-// At the strike nearest the book's spot.
-fn read_money(
-    s: State,
-    expiry: f64,
-    strike_axis: &[f64; 64],
-    expiry_axis: &[f64; 32],
-    grid: &[f64; 2048],
-) -> State {
-    let words = slips::money_words(money::at_the_money(
-        s.book,
-        strike_axis,
-        expiry_axis,
-        grid,
-        s.strikes,
-        s.expiries,
-        expiry,
-    ));
-    let mut t = s;
-    t.ok = say(s.ok, b"money ", &words);
-    t
-}
-
-// A build or a reading; any other request is passed over.
-fn survey(
-    s: State,
-    request: Request,
-    strikes: &[f64; 1024],
-    expiries: &[f64; 1024],
-    volatilities: &[f64; 1024],
-    strike_axis: &mut [f64; 64],
-    expiry_axis: &mut [f64; 32],
-    grid: &mut [f64; 2048],
-    counts: &mut [u64; 2048],
-) -> State {
-    match request {
-        Request::Build => {
-            let words = slips::build_words(book::build(
-                s.book,
-                strikes,
-                expiries,
-                volatilities,
-                strike_axis,
-                expiry_axis,
-                grid,
-                counts,
-            ));
-            let mut t = s;
-            t.strikes = words[1] as usize;
-            t.expiries = words[2] as usize;
-            t.ok = say_surface(s.ok, words, strike_axis, expiry_axis, grid, counts);
-            t
+    // Both axes, then the cells in use: a row has 64 places.
+    fn say_surface(&self) -> Result<(), Failure> {
+        say_axis(b"strike", self.buffers.strike_axis, self.lengths.strikes)?;
+        say_axis(b"expiry", self.buffers.expiry_axis, self.lengths.expiries)?;
+        let rows = self.buffers.grid.chunks(64);
+        let cells = rows.zip(self.buffers.counts.chunks(64));
+        for (row, counts) in cells.take(self.lengths.expiries) {
+            say_row(row, counts, self.lengths.strikes)?;
         }
-        Request::Read { strike, expiry } => read(s, strike, expiry, strike_axis, expiry_axis, grid),
-        Request::Money { expiry } => read_money(s, expiry, strike_axis, expiry_axis, grid),
-        _ => s,
+        Ok(())
+    }
+
+    fn answer(&mut self, name: &[u8; 6], request: Request) -> Result<(), Failure> {
+        match request {
+            Request::Open(opening) => say(name, &self.open(opening)),
+            Request::Offer(offer) => {
+                let heard = book::offer(self.book, offer, &mut self.columns);
+                self.book = heard.book;
+                say(name, &slips::offer_words(heard.answer))
+            }
+            Request::Build => {
+                say(name, &self.build())?;
+                self.say_surface()
+            }
+            Request::Read { strike, expiry } => {
+                let answer = self.surface().interpolate(strike, expiry);
+                say(name, &slips::value_words(answer))
+            }
+            Request::Money { expiry } => {
+                let answer = money::at_the_money(self.book, &self.surface(), expiry);
+                say(name, &slips::money_words(answer))
+            }
+            Request::Price(option) => say(name, &slips::price_words(option)),
+            Request::Greeks(option) => say(name, &slips::greeks_words(option)),
+            Request::Ends {
+                kind,
+                strike,
+                expiry,
+                market,
+            } => say(
+                name,
+                &slips::ends_words(market, self.on_book(kind, strike, expiry)),
+            ),
+        }
+    }
+
+    // A line of the input, without its line feed.
+    fn hear(&mut self, line: &[u8]) -> Result<(), Failure> {
+        match asked(line) {
+            Some((name, request)) => self.answer(name, request),
+            None => say(b"?     ", &[]),
+        }
     }
 }
 
 // ---- lines in the input
 
-// What a read answered, below 0 when no more will come, and how much of it was taken; how much of a line has come, and whether it ended.
+// So much of a line as has come. Six words end at the 108th byte: a 109th says that the line is too long, and no later one is held.
 #[derive(Drop)]
-struct Reader {
-    got: isize,
-    at: usize,
+struct Line {
+    bytes: [u8; 109],
     seen: usize,
-    ended: bool,
+    ghost held: { seen ≤ 109 },
 }
 
-fn begin() -> Reader {
-    Reader {
-        got: 0,
-        at: 0,
-        seen: 0,
-        ended: false,
-    }
-}
-
-// At the end of the input a line that lacks its line feed gets it.
-fn finish(seen: usize, input: &mut [u8; 65536]) -> isize {
-    if seen == 0 {
-        return -1;
-    }
-    input[0] = b'\n';
-    1
-}
-
-// How many bytes a read gave, or less than 0 where it failed.
-fn read_some(stdin: Stdin, input: &mut [u8; 65536]) -> isize {
-    let mut source = stdin;
-    match source.read(&mut input[..]) {
-        Ok(n) => n as isize,
-        Err(_) => -1,
-    }
-}
-
-// Begins a line behind one that ended, else reads.
-fn fetch(r: Reader, stdin: Stdin, input: &mut [u8; 65536]) -> Reader {
-    let mut t = r;
-    if t.ended {
-        t.seen = 0;
-        t.ended = false;
-        return t;
-    }
-    t.at = 0;
-    t.got = read_some(stdin, input);
-    if t.got < 0 {
-        io::write_all(STDERR_FILENO, b"blotter: cannot read\n");
-        return t;
-    }
-    if t.got == 0 {
-        t.got = finish(t.seen, input);
-    }
-    t
-}
-
-// A byte more of a line. Its line feed is not held, nor the 110th byte and later ones, since the line is too long already.
-fn push(seen: usize, b: u8, line: &mut [u8; 109]) -> usize {
-    if b == b'\n' {
-        return seen;
-    }
-    if seen > 108 {
-        return seen;
-    }
-    line[seen] = b;
-    seen + 1
-}
-
-// Takes what was read, up to the end of a line.
-fn take(r: Reader, input: &[u8; 65536], line: &mut [u8; 109]) -> Reader {
-    let n = io::count(r.got, input);
-    let mut at = r.at;
-    let mut seen = r.seen;
-    let mut ended = false;
-    while at < n && !ended {
-        let b = input[at];
-        at += 1;
-        ended = b == b'\n';
-        seen = push(seen, b, line);
-    }
-    Reader {
-        got: r.got,
-        at,
-        seen,
-        ended,
-    }
-}
-
-// Nothing says that an input ends, so the loop counts its turns down, from a number that no run uses up.
-fn main(rt: HostRuntime) {
-    let mut input = [0u8; 65536];
-    let mut line = [0u8; 109];
-    let mut strikes = [0.0f64; 1024];
-    let mut expiries = [0.0f64; 1024];
-    let mut volatilities = [0.0f64; 1024];
-    let mut strike_axis = [0.0f64; 64];
-    let mut expiry_axis = [0.0f64; 32];
-    let mut grid = [0.0f64; 2048];
-    let mut counts = [0u64; 2048];
-    let mut s = closed();
-    let mut r = begin();
-    let mut turns = u64::MAX;
-    while turns > 0 && (r.got >= 0) & s.ok {
-        turns -= 1;
-        r = fetch(r, rt.stdin(), &mut input);
-        r = take(r, &input, &mut line);
-        if r.ended {
-            let q = line_request(&line, r.seen);
-            s = answer(s, q);
-            s = quote(s, q, &line, &mut strikes, &mut expiries, &mut volatilities);
-            s = survey(
-                s,
-                q,
-                &strikes,
-                &expiries,
-                &volatilities,
-                &mut strike_axis,
-                &mut expiry_axis,
-                &mut grid,
-                &mut counts,
-            );
+impl Line {
+    fn push(&mut self, b: u8) {
+        if self.seen < 109 {
+            self.bytes[self.seen] = b;
+            self.seen += 1;
         }
+    }
+}
+
+// What was read is taken byte by byte, and each line that it ends is heard.
+fn take(input: &[u8], line: &mut Line, blotter: &mut Blotter<'_>) -> Result<(), Failure> {
+    for &b in input {
+        if b == b'\n' {
+            blotter.hear(&line.bytes[..line.seen])?;
+            line.seen = 0;
+        } else {
+            line.push(b);
+        }
+    }
+    Ok(())
+}
+
+// What a read gave: nothing at the end of the input.
+fn read_some(mut stdin: Stdin, input: &mut [u8]) -> Result<&[u8], Failure> {
+    match stdin.read(input) {
+        Ok(count) => Ok(&input[..count]),
+        Err(_) => Err(Failure::Read),
+    }
+}
+
+// A buffer of its own, in fixed memory: std's reader of lines takes a pipe byte by byte, and its `BufReader` allocates.
+// Nothing says that an input ends, so the turns are counted, up to a number that no run comes to.
+fn serve(stdin: Stdin, blotter: &mut Blotter<'_>) -> Result<(), Failure> {
+    let mut input = [0; 65536];
+    let mut line = Line {
+        bytes: [0; 109],
+        seen: 0,
+    };
+    for _ in 0..u64::MAX {
+        let part = read_some(stdin, &mut input)?;
+        if part.is_empty() && line.seen == 0 {
+            break;
+        }
+        // At the end of the input a line that lacks its line feed gets it.
+        take(
+            if part.is_empty() { b"\n" } else { part },
+            &mut line,
+            blotter,
+        )?;
+    }
+    Ok(())
+}
+
+fn main(rt: HostRuntime) {
+    let mut blotter = Blotter {
+        book: book::zero_book(),
+        columns: QuoteColumns {
+            strikes: &mut [0.0; 1024],
+            expiries: &mut [0.0; 1024],
+            volatilities: &mut [0.0; 1024],
+        },
+        buffers: SurfaceBuffers {
+            strike_axis: &mut [0.0; 64],
+            expiry_axis: &mut [0.0; 32],
+            grid: &mut [0.0; 2048],
+            counts: &mut [0; 2048],
+        },
+        lengths: NOTHING_BUILT,
+    };
+    if let Err(failure) = serve(rt.stdin(), &mut blotter) {
+        let message: &[u8] = match failure {
+            Failure::Read => b"blotter: cannot read\n",
+            Failure::Write => b"blotter: cannot write\n",
+        };
+        io::write_all(STDERR_FILENO, message);
     }
 }

@@ -2,24 +2,28 @@
 #![tactic(auto)]
 
 ghost use Rattle.std.specs.Prelude.{◌≡◌};
+ghost use Rattle.limits.specs.Refusals.{number_in};
+ghost use Rattle.chart.specs.Build.{outcome};
 ghost use Rattle.ledger.specs.Model.{bsm};
-ghost use Rattle.ledger.specs.Book.{columns_of, fresh, open_refusal, opened, outcome_of_opening, filed};
-ghost use Rattle.ledger.specs.Build.{buffers_of, BuildsBook};
+ghost use Rattle.ledger.specs.Book.{fresh, zero_book, open_refusal, opened, outcome_of_opening, is_short, filed};
+ghost use Rattle.ledger.specs.Build.{BuildsBook};
 ghost use Rattle.ledger.specs.Calls.{Offers, Within};
+ghost use Rattle.admission.specs.Lent.{columns_in, buffers_in, SameBuffers};
+ghost use Rattle.book.specs.Lent.{columns_held, SameColumns};
 
-use blackscholes::Implied;
-use chart::Built;
-use ledger::{Book, Heard, Offer, Opened};
-use limits::first;
+use admission::{Quotes, SurfaceBuffers};
+use chart::Lengths;
+use ledger::{Book, Heard, Offer, Opening, Unopened};
+use limits::{Refusal, check};
 
 // ---- the opening
 
-fn fresh(spot: f64, rate: f64) -> Book
-    ensures { result ≡ fresh (record { spot = spot; rate = rate }) }
+fn fresh(opening: Opening) -> Book
+    ensures { result ≡ fresh opening }
 {
     Book {
-        spot,
-        rate,
+        spot: opening.spot,
+        rate: opening.rate,
         kept: 0,
         refused: 0,
         heard: 0,
@@ -27,116 +31,113 @@ fn fresh(spot: f64, rate: f64) -> Book
     }
 }
 
-fn open_number(spot: f64, rate: f64) -> u64
-    ensures { result ≡ open_refusal (record { spot = spot; rate = rate }) }
+// The record of zeros.
+#[tactic(auto, unfolding(limits::proofs::Float::of_bits, limits::proofs::Float::round))]
+pub fn zero_book() -> Book
+    ensures { result ≡ zero_book }
 {
-    first(
-        !limits::is_spot(spot),
-        6,
-        first(!limits::is_rate(rate), 9, 0),
-    )
+    fresh(Opening {
+        spot: 0.0,
+        rate: 0.0,
+    })
+}
+
+// 6 and 9.
+#[tactic(auto, unfolding(ledger::specs::Book::open_refusal, limits::specs::Checks::first))]
+fn check_opening(opening: Opening) -> Result<(), Refusal>
+    ensures { number_in result ≡ open_refusal opening }
+{
+    check(limits::is_spot(opening.spot), Refusal::Spot)?;
+    check(limits::is_rate(opening.rate), Refusal::Rate)
 }
 
 // Checks 6 and 9. A refused opening returns a record of zeros.
-pub fn open(spot: f64, rate: f64) -> Opened
-    ensures { outcome_of_opening result ≡ opened (record { spot = spot; rate = rate }) }
+#[tactic(auto, unfolding(ledger::specs::Book::opened, limits::specs::Outcome::answered))]
+pub fn open(opening: Opening) -> Result<Book, Unopened>
+    ensures { outcome_of_opening result ≡ opened opening }
 {
-    let number = open_number(spot, rate);
-    if number != 0 {
-        return Opened::Refused {
-            number,
-            book: fresh(0.0, 0.0),
-        };
+    check_opening(opening).map_err(|refusal| Unopened {
+        refusal,
+        book: zero_book(),
+    })?;
+    Ok(fresh(opening))
+}
+
+// ---- the columns
+
+// What a host lends for the quotes that are kept: three arrays and no array of quotes, as the C interface needs it.
+#[derive(Drop)]
+pub struct QuoteColumns<'a> {
+    pub strikes: &'a mut [f64],
+    pub expiries: &'a mut [f64],
+    pub volatilities: &'a mut [f64],
+}
+
+impl QuoteColumns<'_> {
+    // As a build reads them.
+    pub fn quotes(&self) -> Quotes<'_>
+        ensures { columns_in result ≡ columns_held self.now }
+    {
+        Quotes {
+            strikes: self.strikes,
+            expiries: self.expiries,
+            volatilities: self.volatilities,
+        }
     }
-    Opened::Fresh {
-        book: fresh(spot, rate),
+
+    // 1
+    #[tactic(auto, unfolding(chart::specs::Quotes::is_short))]
+    fn is_short(&self) -> bool
+        ensures { result ≡ is_short (columns_held self.now) }
+    {
+        verdicts::is_short(
+            self.strikes.len(),
+            self.expiries.len(),
+            self.volatilities.len(),
+        )
+    }
+
+    // An offer is kept at one place.
+    fn file(&mut self, at: usize, o: Offer, volatility: f64)
+        requires { Within at (columns_held self.old) }
+        ensures same_memory { SameColumns self.new self.old }
+        ensures filed { columns_held self.new ≡ filed at o volatility (columns_held self.old) }
+    {
+        self.strikes[at] = o.strike;
+        self.expiries[at] = o.expiry;
+        self.volatilities[at] = volatility;
     }
 }
 
 // ---- the offers
 
-// The columns at one place.
-fn file(
-    at: usize,
-    o: Offer,
-    v: f64,
-    strikes: &mut [f64],
-    expiries: &mut [f64],
-    volatilities: &mut [f64],
-)
-    requires { Within at (columns_of strikes.old expiries.old volatilities.old) }
-    ensures { columns_of strikes.new expiries.new volatilities.new
-        ≡ filed at o v (columns_of strikes.old expiries.old volatilities.old) }
-{
-    strikes[at] = o.strike;
-    expiries[at] = o.expiry;
-    volatilities[at] = v;
-}
-
 // An offer: checks 1 to 5, 7, 8, 10, then the solver of a price. An accepted one is written at index kept.
-pub fn offer(
-    book: Book,
-    offer: Offer,
-    strikes: &mut [f64],
-    expiries: &mut [f64],
-    volatilities: &mut [f64],
-) -> Heard
-    ensures { Offers bsm book
-        (columns_of strikes.old expiries.old volatilities.old)
-        offer result
-        (columns_of strikes.new expiries.new volatilities.new) }
+#[tactic(auto, unfolding(ledger::specs::Book::columns_after, brent::specs::Outcome::outcome_of_implied))]
+pub fn offer(book: Book, offer: Offer, columns: &mut QuoteColumns<'_>) -> Heard
+    ensures same_memory { SameColumns columns.new columns.old }
+    ensures offers { Offers bsm book (columns_held columns.old) offer result (columns_held columns.new) }
 {
-    let short = verdicts::is_short(strikes.len(), expiries.len(), volatilities.len());
-    let heard = verdicts::decide(book, short, offer);
-    let answer = heard.answer;
-    let Implied::Found { solution } = answer else {
+    let heard = verdicts::decide(book, columns.is_short(), offer);
+    let Ok(solution) = heard.answer else {
         return heard;
     };
-    let at = book.kept as usize;
-    file(
-        at,
-        offer,
-        solution.volatility,
-        strikes,
-        expiries,
-        volatilities,
-    );
+    columns.file(book.kept as usize, offer, solution.volatility);
     heard
 }
 
 // ---- the build
 
 // The surface of the quotes kept: checks 1, 2, 15, 16, 17. The book is unchanged.
+#[tactic(auto, unfolding(ledger::specs::Build::build_refusal, crate::proofs::Ends::first, crate::proofs::Ends::answered, crate::proofs::Ends::unless_refused))]
 pub fn build(
     book: Book,
-    strikes: &[f64],
-    expiries: &[f64],
-    volatilities: &[f64],
-    strike_axis: &mut [f64],
-    expiry_axis: &mut [f64],
-    grid: &mut [f64],
-    counts: &mut [u64],
-) -> Built
-    ensures { BuildsBook book
-        (columns_of strikes.now expiries.now volatilities.now)
-        (buffers_of strike_axis.old expiry_axis.old grid.old counts.old)
-        result
-        (buffers_of strike_axis.new expiry_axis.new grid.new counts.new) }
+    columns: &QuoteColumns<'_>,
+    buffers: &mut SurfaceBuffers<'_>,
+) -> Result<Lengths, Refusal>
+    ensures same_memory { SameBuffers buffers.new buffers.old }
+    ensures builds { BuildsBook book (columns_held columns.now) (buffers_in buffers.old) (outcome result) (buffers_in buffers.new) }
 {
-    if verdicts::is_short(strikes.len(), expiries.len(), volatilities.len()) {
-        return Built::Refused { number: 1 };
-    }
-    if verdicts::is_broken(book) {
-        return Built::Refused { number: 2 };
-    }
-    surface::build(
-        strikes,
-        expiries,
-        volatilities,
-        book.kept,
-        strike_axis,
-        expiry_axis,
-        grid,
-        counts,
-    )
+    check(!columns.is_short(), Refusal::ShortColumn)?;
+    check(!verdicts::is_broken(book), Refusal::OutOfBounds)?;
+    surface::build(&columns.quotes(), book.kept, buffers)
 }

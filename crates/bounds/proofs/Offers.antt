@@ -60,7 +60,7 @@ passed short b o h =
 answer_not_11 : (b : Book) (o : Offer) → Passed b o → (terms : Terms) → o.terms ≡ terms → Held terms → {x : Solution}
     → answer_to (prices_of bsm (opening_of b) o) terms ≡ refused 11 x → ⊥
 unfolding answer_to
-answer_not_11 b o h (Volatility v) t f e = let z : ◌≡◌ {A = ℕ} 0 1 = cc in omega arith
+answer_not_11 b o h (Volatility v) t f e = cc
 answer_not_11 b o h (Price kind market) t f {x} e =
     let prices = prices_of bsm (opening_of b) o kind in
     let d = ((brent.claim).modelled market prices).done_with in

@@ -80,7 +80,7 @@ finite_answer p v h =
     by (λ (o : Outcome Float). o ≡ done v → finite v ≡ true) (λ (t : Bool). if t then done (price p) else refused (refusal p) (decimal 0 1))
     (eqb (refusal p) none)
     (λ t e. subst (λ (x : Float). finite x ≡ true) (same (price p) v e) (finite_price p (eqb-true (refusal p) none t)))
-    (λ t e. absurd (let z : ◌≡◌ {A = ℕ} 0 1 = cc in omega arith))
+    (λ t e. cc)
     h
   where
     same : (x y : Float) → done x ≡ done y → x ≡ y
@@ -115,6 +115,7 @@ module _ (p : OptionParams) (market : Float) (f : T (fits binary64 market)) wher
   unfolding implied
   never_11 {x} {s} e =
       by (λ (r : Reply). r ≡ ended (refused 11 x) s → ⊥)
-      (λ (t : Bool). if t then (run_with market model).reply else ended (refused (implied_refusal market p) (zeros 0)) over) (eqb (implied_refusal market p) none)
+      (λ (t : Bool). if t then (run_with market model).reply else ended (refused (implied_refusal market p) (zeros 0)) over)
+      (eqb (implied_refusal market p) none)
       (λ t. no_run (eqb-true (implied_refusal market p) none t))
       (λ t. no_check) e

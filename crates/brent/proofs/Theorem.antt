@@ -1,4 +1,5 @@
 -- The claim of specs/Claim: each field is read off what the invariant says of the last reply. Assumes nothing.
+use Rattle.std.specs.Prelude.{Result, Ok, Err}
 use mathlib.Core.Path.{◌≡◌, refl, sym, ap, ◌∙◌, subst}
 use mathlib.Core.List.Memᴰ
 use mathlib.Core.List.{List, map, Memᴰ}
@@ -16,12 +17,15 @@ use Rattle.floats.proofs.Tests.{split, clash, and_left, and_right}
 use Rattle.limits.specs.Ranges.{is_volatility}
 use Rattle.limits.specs.Checks.{first}
 use Rattle.limits.specs.Outcome.{Outcome, done, refused}
+use Rattle.limits.specs.declared.Refusal.{Refusal}
+use Rattle.limits.proofs.Refusals.{different}
 use Rattle.brent.specs.declared.Points.{Points}
 use Rattle.brent.specs.declared.Solver.{Solver}
 use Rattle.brent.specs.declared.Answer.{Answer}
-use Rattle.brent.specs.declared.Answer.TheVariants.{Ask, Found, Refused}
+use Rattle.brent.specs.declared.Answer.TheVariants.{Ask, Ended}
 use Rattle.brent.specs.declared.Solution.{Solution}
-use Rattle.brent.specs.Outcome.{Reply, asking, ended, zeros, outcome}
+use Rattle.brent.specs.declared.Unsolved.{Unsolved}
+use Rattle.brent.specs.Outcome.{Reply, asking, ended, zeros, outcome_of_implied, outcome}
 use Rattle.brent.specs.Feed.{over, fresh, refuse, ask, find, is_unusable, is_unbracketed, feed_number, start, feed}
 use Rattle.brent.specs.Run.{Tried, Run, try_next, feed_all, feed_with, run, run_with}
 use Rattle.brent.specs.Claim.{Obtained, evaluations_of, Given, five, eleven, twelve, thirteen, Blank, AllZero, Unusable, Unbracketed, Ran}
@@ -106,7 +110,7 @@ module _ (price : Float → Float) where
   unfolding feed_with
   still_asking zero r v s e = refl
   still_asking (suc n) (asking w t) v s e = ap suc (still_asking n (feed t (price w)) v s e)
-  still_asking (suc n) (ended o t) v s e = let z : ◌≡◌ {A = ℕ} 0 1 = cc in absurd (omega arith)
+  still_asking (suc n) (ended o t) v s e = cc
 
   with_price : (n : ℕ) (r : Reply) (t : Tried) → Memᴰ t (feed_with n price r).tried → t.price ≡ price t.at
   unfolding feed_with
@@ -200,7 +204,7 @@ module _ (s : Solver) (price : Float) where
   asked_answer market p r n =
       record {
         back = λ e. absurd (omega arith);
-        left = λ h e. absurd (let z : ◌≡◌ {A = ℕ} 0 1 = cc in omega arith);
+        left = λ h e. cc;
         told = tells_nothing 0 (λ e. omega arith) (λ e. omega arith) (λ e. omega arith);
         known = tt;
       }
@@ -338,20 +342,26 @@ same_count : (n m : ℕ) → zeros n ≡ zeros m → n ≡ m
 unfolding zeros
 same_count n m e = ap (λ (x : Solution). x.evaluations) e
 
-refused_alike : (j n : ℕ) (s : Solver) (k m : ℕ) (t : Solver) → ended (refused j (zeros n)) s ≡ ended (refused k (zeros m)) t → Refused j n s ≡ Refused k m t
-refused_alike j n s k m t e = cc (same_count n m (cc))
+same_unsolved : (q r : Refusal) (n m : ℕ) → q ≡ r → n ≡ m
+    → ◌≡◌ {A = Unsolved} (record { refusal = q; evaluations = n }) (record { refusal = r; evaluations = m })
+same_unsolved q r n m e f = cc
+
+pub implied_read : (a b : Result Solution Unsolved) → outcome_of_implied a ≡ outcome_of_implied b → a ≡ b
+unfolding outcome_of_implied
+implied_read (Ok x) (Ok y) e = cc
+implied_read (Ok x) (Err b) e = cc
+implied_read (Err a) (Ok y) e = cc
+implied_read (Err a) (Err b) e =
+    let r : a.refusal ≡ b.refusal = different a.refusal b.refusal (cc) in
+    let n : a.evaluations ≡ b.evaluations = same_count a.evaluations b.evaluations (cc) in
+    ap Err (same_unsolved a.refusal b.refusal a.evaluations b.evaluations r n)
 
 determined : (a b : Answer) → outcome a ≡ outcome b → a ≡ b
 unfolding outcome
 determined (Ask v s) (Ask w t) e = cc
-determined (Ask v s) (Found x t) e = absurd (let z : ◌≡◌ {A = ℕ} 0 1 = cc in omega arith)
-determined (Ask v s) (Refused k n t) e = absurd (let z : ◌≡◌ {A = ℕ} 0 1 = cc in omega arith)
-determined (Found x s) (Ask w t) e = absurd (let z : ◌≡◌ {A = ℕ} 0 1 = cc in omega arith)
-determined (Found x s) (Found y t) e = cc
-determined (Found x s) (Refused k m t) e = absurd (let z : ◌≡◌ {A = ℕ} 0 1 = cc in omega arith)
-determined (Refused j n s) (Ask w t) e = absurd (let z : ◌≡◌ {A = ℕ} 0 1 = cc in omega arith)
-determined (Refused j n s) (Found x t) e = absurd (let z : ◌≡◌ {A = ℕ} 0 1 = cc in omega arith)
-determined (Refused j n s) (Refused k m t) e = refused_alike j n s k m t e
+determined (Ask v s) (Ended x t) e = cc
+determined (Ended x s) (Ask w t) e = cc
+determined (Ended x s) (Ended y t) e = cc (implied_read x y (cc))
 
 blank : (n : ℕ) → Blank n (zeros n)
 unfolding zeros

@@ -2,8 +2,10 @@
 // what document 01 says of it, proved for every list of prices. Crate `solver` has the functions.
 #![tactic(auto)]
 
+use limits::Refusal;
+
 // A round's numbers: the last point a, the best b and the opposing c, their errors, and the last two steps.
-#[derive(Clone, Copy)]
+#[derive(Clone, Copy, Default)]
 pub struct Points {
     pub a: f64,
     pub b: f64,
@@ -16,7 +18,7 @@ pub struct Points {
 }
 
 // A solver between two prices. An ended one's numbers are all 0.
-#[derive(Clone, Copy)]
+#[derive(Clone, Copy, Default)]
 pub struct Solver {
     pub market: f64,
     pub points: Points,
@@ -34,20 +36,22 @@ pub struct Solution {
     pub evaluations: u64,
 }
 
-// Asking for the price at a volatility, found, or refused; `next` is the state that follows.
-#[derive(Drop)]
+// Why a solver found nothing, with the evaluations that it made.
+#[derive(Clone, Copy)]
+pub struct Unsolved {
+    pub refusal: Refusal,
+    pub evaluations: u64,
+}
+
+// Asking for the price at a volatility, or ended; `next` is the state that follows.
+#[derive(Clone, Copy)]
 pub enum Answer {
     Ask {
         volatility: f64,
         next: Solver,
     },
-    Found {
-        solution: Solution,
-        next: Solver,
-    },
-    Refused {
-        number: u64,
-        evaluations: u64,
+    Ended {
+        solved: Result<Solution, Unsolved>,
         next: Solver,
     },
 }
@@ -60,7 +64,7 @@ pub struct Ratio {
 }
 
 // The last step and the one before it.
-#[derive(Drop)]
+#[derive(Clone, Copy)]
 pub struct LastSteps {
     pub d: f64,
     pub e: f64,

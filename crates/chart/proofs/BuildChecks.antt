@@ -1,22 +1,21 @@
 -- What the checks of a build say together: what holds when none before the axes does, and what the axes then add. Assumes nothing.
 use Prim.Native.Nat.{ℕ, ◌≤◌}
-use mathlib.Core.Path.{◌≡◌, refl, sym, ap}
+use mathlib.Core.Path.{◌≡◌, refl, sym, ap, ◌∙◌}
 use mathlib.Core.Bool.{Bool, true, false, not}
 use mathlib.Core.List.{List, [], ◌∷◌}
 use native.Mathlib.Omega.{arith}
 use lib.Dec.{ltb}
 use lib.ListN.{length}
-use borrow.Author.Tests.{ltb-false, not-false, ne_eqb}
+use borrow.Author.Tests.{ltb-false, le-ltb, not-false, ne_eqb}
 use Rattle.floats.proofs.Tests.{or_left_false, or_right_false}
 use Rattle.limits.specs.Checks.{first, none}
-use Rattle.limits.specs.Outcome.{answered, unless_refused}
+use Rattle.limits.specs.Outcome.{done, refused, answered, unless_refused}
 use Rattle.limits.proofs.Checks.{Rows, passes, stays, none_of}
-use Rattle.chart.specs.Quotes.{Quote, Columns, quotes, is_short, all_in_range}
+use Rattle.chart.specs.Quotes.{Quote, Columns, quotes, first_of, is_short, all_in_range, all_entries}
 use Rattle.chart.specs.Cells.{axes}
-use Rattle.chart.specs.Build.{Buffers, surface_of, is_wrong, is_small, refusal, BuildsTo}
+use Rattle.chart.specs.Build.{Buffers, no_lengths, surface_of, is_wrong, is_small, refusal, BuildsTo}
 use Rattle.chart.specs.Steps.{number_by, axes_refusal}
-use Rattle.chart.specs.declared.Built.TheVariants.{Surface, Refused}
-use Rattle.chart.proofs.Kept.{long}
+use Rattle.chart.proofs.Kept.{long, kept_in_range}
 
 -- ---- the checks that come before the axes
 abbrev rows : Columns → ℕ → Bool → Rows
@@ -62,6 +61,19 @@ unfolding refusal
 told c kept s small e =
     ap (λ (b : Bool). number_by c kept b (axes_refusal (length (axes (quotes c kept)).strikes) (length (axes (quotes c kept)).expiries))) (sym e)
 
+-- ---- 2, of the entries side by side
+module _ (c : Columns) (kept : ℕ) (small : Bool) (b : Bool) (full : is_short c ≡ false) (few : kept ≤ 1024) (e : b ≡ all_entries (first_of c kept)) where
+  entries_told : b ≡ all_in_range (quotes c kept)
+  entries_told = let l = long c full in e ∙ kept_in_range c kept (omega (arith, l.strikes)) (omega (arith, l.expiries)) (omega (arith, l.volatilities))
+
+  pub told_wrong : b ≡ false → 2 ≡ number_by c kept small none
+  unfolding first is_wrong
+  told_wrong f = rw (full, le-ltb 1024 kept few, ← entries_told, f)
+
+  pub told_ranged : b ≡ true → first small 15 none ≡ number_by c kept small none
+  unfolding first is_wrong
+  told_ranged t = rw (full, le-ltb 1024 kept few, ← entries_told, t)
+
 -- ---- no check holds
 pub record Passed (c : Columns) (kept : ℕ) (s : Buffers) : Type 0 where
   pub sound : Sound c kept
@@ -95,11 +107,11 @@ passed c kept s h =
 
 -- ---- the two ends of a build
 module _ (number : ℕ) (qs : List Quote) (s : Buffers) where
-  pub refused_by : (n : ℕ) → number ≡ n → (n ≡ none → ⊥) → BuildsTo number qs s (Refused n) s
+  pub refused_by : (n : ℕ) → number ≡ n → (n ≡ none → ⊥) → BuildsTo number qs s (refused n no_lengths) s
   unfolding answered unless_refused
   refused_by n e z = let t = ne_eqb n none z in record { answers = rw (e, t); buffers = rw (e, t) }
 
   pub done_by : (s' : Buffers) (k t : ℕ) → number ≡ none → k ≡ length (axes qs).strikes → t ≡ length (axes qs).expiries → s' ≡ surface_of qs s
-      → BuildsTo number qs s (Surface k t) s'
+      → BuildsTo number qs s (done (record { strikes = k; expiries = t })) s'
   unfolding answered unless_refused
   done_by s' k t e hk ht h = record { answers = rw (e, hk, ht); buffers = rw e h }

@@ -16,7 +16,7 @@ use Rattle.grid.specs.Layout.{cell_at}
 use Rattle.chart.specs.Quotes.{Quote, Columns, quotes}
 use Rattle.chart.specs.Axis.{place}
 use Rattle.chart.specs.Cells.{Axes, counted, added}
-use Rattle.chart.specs.Steps.{OnAxis, OnAxes, Filed}
+use Rattle.chart.specs.Steps.{OnAxis, OnAxes, Blank, Filed}
 use Rattle.chart.proofs.Kept.{quotes_at}
 
 -- no cell counts more quotes than there are
@@ -46,14 +46,13 @@ module _ (x : Axes) (qs : List Quote) where
     pub summing : (i j : ℕ) → i < 32 → j < 64 → added (get_or sums (cell_at i j) nan) (counted x i j (drop k qs)) ≡ added (decimal 0 1) (counted x i j qs)
     pub numbering : (i j : ℕ) → i < 32 → j < 64 → get_or numbers (cell_at i j) 0 + length (counted x i j (drop k qs)) ≡ length (counted x i j qs)
 
-  pub file_start : (sums : List Float) (numbers : List ℕ) → length sums ≡ 2048 → length numbers ≡ 2048
-      → ((p : ℕ) → p < 2048 → (get_or sums p nan ≡ decimal 0 1) × (get_or numbers p 0 ≡ 0)) → Filing sums numbers 0
-  file_start sums numbers s n z =
+  pub file_start : (sums : List Float) (numbers : List ℕ) → Blank sums numbers → Filing sums numbers 0
+  file_start sums numbers z =
       record {
-        sized = s;
-        numbered = n;
-        summing = λ i j a b. rw (z (cell_at i j) (omega arith)).0;
-        numbering = λ i j a b. omega (arith, (z (cell_at i j) (omega arith)).1);
+        sized = z.cells.0;
+        numbered = z.cells.1;
+        summing = λ i j a b. rw (z.sum (cell_at i j) (omega arith));
+        numbering = λ i j a b. omega (arith, z.number (cell_at i j) (omega arith));
       }
 
   -- the counts stay small
@@ -81,7 +80,8 @@ module _ (x : Axes) (qs : List Quote) where
         omega arith
 
     file_here : (sums : List Float) (numbers : List ℕ) → Filing sums numbers k
-        → Filing (set sums (cell_at a b) (get_or sums (cell_at a b) nan ⊕ q.volatility)) (set numbers (cell_at a b) (get_or numbers (cell_at a b) 0 + 1)) (k + 1)
+        → Filing (set sums (cell_at a b) (get_or sums (cell_at a b) nan ⊕ q.volatility))
+        (set numbers (cell_at a b) (get_or numbers (cell_at a b) 0 + 1)) (k + 1)
     unfolding added
     file_here sums numbers f =
         let at = cell_at a b in

@@ -1,38 +1,46 @@
--- Opening a gap in a list, by a loop that carries the value to be stored next; copying to the front of a list. Assumes nothing.
-use Prim.Native.Nat.{ℕ, suc, ◌+◌, ◌≤◌, ◌<◌}
-use mathlib.Core.Path.{◌≡◌}
-use mathlib.Core.List.{List, ◌∷◌, ◌++◌, append_assoc}
+-- Opening a gap in a list: the value goes behind the ones in use, and what stands from the gap on is turned by one. Assumes nothing.
+use Prim.Native.Nat.{ℕ, suc, ◌+◌, ◌-◌, ◌≤◌, ◌<◌}
+use mathlib.Core.Path.{◌≡◌, ◌∙◌, ap}
+use mathlib.Core.List.{List, [], ◌∷◌, ◌++◌, append_assoc}
 use native.Mathlib.Omega.{arith}
-use native.Mathlib.Numerals.{add-one}
-use lib.ListN.{length, take, drop, get_or, set, drop_of_length-le}
-use lib.Seq.{drop-cons, get_or-take, length-take-le, take-suc, take-suc-set, take-set-lt, drop-set-lt, set_split, set_at}
-use lib.Ieee.{Float, nan}
+use lib.ListN.{length, take, drop, set, length-append, length-drop}
+use lib.Seq.{length-take-le, set_split, take_at, take-append_seam, drop-append_seam, drop-append-add}
+use lib.Ieee.{Float}
+use borrow.Rule.Slice.PartMut.{put_mid}
+use Rattle.std.proofs.lemmas.List.{drop-append-le, take-set-le}
 
--- the list a with y stored at j and what stood from j up to n moved one place up
-unfoldable pub opened : List Float → ℕ → ℕ → Float → List Float
-opened a j n y = take j a ++ y ∷ (drop j (take n a) ++ drop (suc n) a)
+module _ (a : List Float) (p n : ℕ) (x : Float) (h : p ≤ n) (l : n < length a) where
+  -- what stands from p on, with the value behind it
+  abbrev part : List Float
+  part = take (n + 1 - p) (drop p (set a n x))
 
-pub gap_step : (a : List Float) (j n : ℕ) (y : Float) → j < n → n < length a → opened (set a j y) (j + 1) n (get_or a j nan) ≡ opened a j n y
-unfolding opened
-gap_step a j n y h k =
-    let ℓ : n ≤ length a = omega arith in
-    let q : j < length a = omega arith in
-    let s : j < suc j = omega arith in
-    let t : j < suc n = omega arith in
-    let u : j < length (take n a) = simp length-take-le (omega arith) in
-    let d = drop-set-lt (suc j) (take n a) j y s in
-    let e = drop-set-lt (suc n) a j y t in
-    rw (add-one, take-suc-set, take-set-lt, d, e, append_assoc, drop-cons (take n a) j nan u, get_or-take)
+  abbrev moved : List Float
+  moved = drop p (take n a)
 
-pub gap_end : (a : List Float) (n : ℕ) (y : Float) → n < length a → set a n y ≡ opened a n n y
-unfolding opened
-gap_end a n y k =
-    let ℓ : n ≤ length a = omega arith in
-    let q : length (take n a) ≤ n = simp length-take-le (omega arith) in
-    rw (set_split, drop_of_length-le (take n a) q)
+  size : length moved ≡ n - p
+  size = length-drop p (take n a) ∙ ap (λ (k : ℕ). k - p) (length-take-le n a (omega arith))
 
-pub copy_step : (d s : List Float) (i : ℕ) → i < length d → i < length s
-    → set (take i s ++ drop i d) i (get_or s i nan) ≡ take (i + 1) s ++ drop (i + 1) d
-copy_step d s i h k =
-    let m : length (take i s) ≡ i = length-take-le i s (omega arith) in
-    rw (drop-cons d i nan, set_at (take i s) (get_or d i nan) (drop (suc i) d) (get_or s i nan) i m, add-one, take-suc s i nan, append_assoc)
+  behind : drop p (set a n x) ≡ moved ++ (x ∷ drop (suc n) a)
+  behind =
+      let full : length (take n a) ≡ n = length-take-le n a (omega arith) in
+      let q : p ≤ length (take n a) = omega arith in
+      rw (set_split a n x l) (drop-append-le p (take n a) (x ∷ drop (suc n) a) q)
+
+  part_is : part ≡ moved ++ (x ∷ [])
+  part_is =
+      let k : length (moved ++ (x ∷ [])) ≡ n + 1 - p = omega (arith, size, length-append moved (x ∷ [])) in
+      rw (behind, ← append_assoc moved (x ∷ []) (drop (suc n) a)) (take_at (moved ++ (x ∷ [])) (drop (suc n) a) (n + 1 - p) k)
+
+  turned : drop (length part - 1) part ++ take (length part - 1) part ≡ x ∷ moved
+  turned =
+      let k : length part - 1 ≡ length moved = omega (arith, ap (λ (l : List Float). length l) part_is, length-append moved (x ∷ [])) in
+      rw (k, part_is, drop-append_seam moved (x ∷ []), take-append_seam moved (x ∷ []))
+
+  after : drop (n + 1 - p) (drop p (set a n x)) ≡ drop (suc n) a
+  after =
+      let k : n + 1 - p ≡ length moved + 1 = omega (arith, size) in
+      rw (behind, k, drop-append-add moved (x ∷ drop (suc n) a) 1)
+
+  pub gap_opened : (ys : List Float) → ys ≡ drop (length part - 1) part ++ take (length part - 1) part
+      → put_mid p (n + 1 - p) (set a n x) ys ≡ take p a ++ x ∷ (drop p (take n a) ++ drop (suc n) a)
+  gap_opened ys e = rw (e, turned, after, take-set-le p a n x h)

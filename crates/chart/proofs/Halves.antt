@@ -17,8 +17,7 @@ use Rattle.floats.proofs.Tests.{split, clash}
 use Rattle.floats.proofs.Order.{Under, under_trans, under_of_lt, under_of_not_lt, sub_down, sub_either, sub_mono}
 use Rattle.floats.proofs.Rounding.{magnitude_round}
 use Rattle.floats.proofs.Bounds.{sub_negative}
-use Rattle.grid.specs.Search.{first_where}
-use Rattle.grid.proofs.First.{AllPass, Rising}
+use Rattle.grid.specs.Search.{first_where, AllPass, Rising}
 use Rattle.chart.specs.Axis.{hair, near, place}
 use Rattle.chart.specs.Steps.{Pos, Ascending, reaches, OnAxis}
 use Rattle.chart.proofs.Ordered.{Over, Ordered, ordered_of, not_lt_of_under}

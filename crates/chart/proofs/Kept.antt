@@ -1,19 +1,19 @@
 -- The first entries of the columns as a list of quotes. Assumes nothing.
 use Prim.Native.Nat.{ℕ, zero, suc, ◌+◌, ◌≤◌, ◌<◌}
 use mathlib.Core.Path.{◌≡◌, refl, sym, ◌∙◌, ap}
-use mathlib.Core.Bool.{Bool, true, false}
+use mathlib.Core.Bool.{false}
 use mathlib.Core.List.{List, [], ◌∷◌, map}
 use native.Mathlib.Nat.{le_of_suc-le-suc}
 use native.Mathlib.Omega.{arith}
 use lib.Dec.{ltb}
 use lib.ListN.{length, take, drop, get_or}
-use lib.Seq.{get_or-take}
+use lib.Seq.{get_or-take, drop-cons}
 use borrow.Author.Tests.{ltb-false}
 use lib.Ieee.{nan}
 use Rattle.limits.proofs.Checks.{none_of}
 use Rattle.grid.specs.Layout.{values}
-use Rattle.grid.proofs.Values.{length_values, map_values, values_at, values_end, values_list, values_front}
-use Rattle.chart.specs.Quotes.{Quote, Columns, quote_at, quotes, is_short, in_range, all_in_range}
+use Rattle.grid.proofs.Values.{length_values, map_values, values_at, values_end, values_list, values_front, values_same}
+use Rattle.chart.specs.Quotes.{Quote, Columns, columns_of, first_of, quote_at, quotes, is_short, all_in_range, all_entries}
 
 -- where 1 does not hold, each column has 1,024 entries
 pub record Long (c : Columns) : Type 0 where
@@ -60,19 +60,30 @@ module _ (c : Columns) (n : ℕ) where
   pub quotes_end : (i : ℕ) → n ≤ i → drop i (quotes c n) ≡ []
   quotes_end i h = values_end (quote_at c) n i h
 
-  -- check 2, a quote at a time
-  pub range_on : (i : ℕ) (d : Bool) → i < n → in_range (quote_at c i) ≡ true → all_in_range (drop i (quotes c n)) ≡ d
-      → all_in_range (drop (i + 1) (quotes c n)) ≡ d
-  unfolding all_in_range
-  range_on i d h t e = (rw (quotes_at i h, t) at e)
+-- the columns' first entries have the same quotes
+pub quotes_first : (c : Columns) (n : ℕ) → quotes (first_of c n) n ≡ quotes c n
+quotes_first c n =
+    values_same (quote_at (first_of c n)) (quote_at c) n 0 (λ i h.
+    let l : i < n = omega arith in
+    λ j.
+    record {
+      strike = get_or-take n c.strikes i nan l j;
+      expiry = get_or-take n c.expiries i nan l j;
+      volatility = get_or-take n c.volatilities i nan l j;
+    })
 
-  pub range_stop : (i : ℕ) (d : Bool) → i < n → in_range (quote_at c i) ≡ false → all_in_range (drop i (quotes c n)) ≡ d → false ≡ d
-  unfolding all_in_range
-  range_stop i d h t e = (rw (quotes_at i h, t) at e)
+-- the columns' first entries side by side are their quotes
+go_in_range : (c : Columns) (n k : ℕ) → k + n ≤ length c.strikes → k + n ≤ length c.expiries → k + n ≤ length c.volatilities
+    → all_entries (first_of (columns_of (drop k c.strikes) (drop k c.expiries) (drop k c.volatilities)) n) ≡ all_in_range (values (quote_at c) n k)
+unfolding all_in_range all_entries values
+go_in_range c zero k a b d = refl
+go_in_range c (suc n) k a b d =
+    let rest = go_in_range c n (suc k) (omega arith) (omega arith) (omega arith) in
+    rw (drop-cons c.strikes k nan (omega arith), drop-cons c.expiries k nan (omega arith), drop-cons c.volatilities k nan (omega arith), rest)
 
-  pub range_end : (i : ℕ) (d : Bool) → n ≤ i → all_in_range (drop i (quotes c n)) ≡ d → true ≡ d
-  unfolding all_in_range
-  range_end i d h e = (rw (quotes_end i h) at e)
+pub kept_in_range : (c : Columns) (n : ℕ) → n ≤ length c.strikes → n ≤ length c.expiries → n ≤ length c.volatilities
+    → all_entries (first_of c n) ≡ all_in_range (quotes c n)
+kept_in_range c n a b d = go_in_range c n 0 (omega arith) (omega arith) (omega arith)
 
 -- ---- columns that hold the quotes of a list hold no others
 get_d_map : {X : Type 0} (f : Quote → X) (qs : List Quote) (i : ℕ) (q : Quote) (d : X) → i < length qs → get_or (map f qs) i d ≡ f (get_or qs i q)

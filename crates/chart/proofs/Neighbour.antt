@@ -1,13 +1,14 @@
 -- The neighbour rule, a column at a time. It looks at no column past the row, and finds the nearest counted ones. Assumes nothing.
-use Rattle.std.specs.Prelude.{if◌then◌else◌}
+use Rattle.std.specs.Prelude.{if◌then◌else◌, List, [], ◌∷◌, length, get_or, position}
+use Rattle.std.specs.List.{position_or_len}
+use Rattle.std.specs.Option.{unwrap_or}
 use Prim.Native.Nat.{ℕ, zero, suc, ◌+◌, ◌-◌, ◌≤◌, ◌<◌}
-use mathlib.Core.Path.{◌≡◌, refl, sym, ◌∙◌, subst}
+use mathlib.Core.Path.{◌≡◌, refl, sym, ap, ◌∙◌, subst}
 use mathlib.Core.Bool.{false}
 use mathlib.Core.Logic.{inl, inr}
 use mathlib.Core.Option.{Option, none, some}
 use native.Mathlib.Nat.{eq-or-lt_of_le, le_of_suc-le-suc}
 use native.Mathlib.Omega.{arith}
-use native.Mathlib.Numerals.{add-one}
 use lib.Dec.{ltb, eqb}
 use lib.Ieee.{Float}
 use borrow.Author.Tests.{lt-ltb, le-ltb, ltb-true, ltb-false, eqb-true, eqb-false}
@@ -44,36 +45,48 @@ held_next s c w j r e =
     let p : j + 1 - 1 ≡ j = omega arith in
     rw p e
 
--- the search for the first counted column
-module _ (c : ℕ → ℕ) (w : ℕ) where
-  abbrev pub Seeking : ℕ → Type 0
-  Seeking j = either none (rightward c j (w - j)) ≡ source c w 0
-
-  pub seek_on : (j : ℕ) → j < w → c j ≤ 0 → Seeking j → Seeking (j + 1)
-  unfolding rightward
-  seek_on j h z s =
-      let t : ltb 0 (c j) ≡ false = le-ltb 0 (c j) z in
-      let e : w - j ≡ suc (w - (j + 1)) = omega arith in
-      rw (add-one j) (rw (e, t, add-one j) at s)
-
-  pub seek_hit : (j : ℕ) → j < w → 0 < c j → Seeking j → j ≡ source c w 0
-  unfolding rightward
-  seek_hit j h z s =
-      let e : w - j ≡ suc (w - (j + 1)) = omega arith in
-      (rw (e, lt-ltb 0 (c j) z) at s)
-
-  pub seek_end : (j : ℕ) → w ≤ j → Seeking j → 0 ≡ source c w 0
-  unfolding rightward
-  seek_end j h s =
-      let e : w - j ≡ 0 = omega arith in
-      (rw e at s)
-
-pub seek_start : (c : ℕ → ℕ) (w : ℕ) → Seeking c w 0
+-- ---- the first counted column, as a position in the row's counts
+from_left : (c : ℕ → ℕ) (w : ℕ) → either none (rightward c 0 w) ≡ source c w 0
 unfolding source leftward rightward
-seek_start c zero = split (ltb 0 (c 0)) (λ t. rw t) (λ t. rw t)
-seek_start c (suc w) =
+from_left c zero = split (ltb 0 (c 0)) (λ t. rw t) (λ t. rw t)
+from_left c (suc w) =
     let e : suc w - 0 ≡ suc w = omega arith in
     rw e (split (ltb 0 (c 0)) (λ t. rw t) (λ t. rw t))
+
+abbrev some_before : List ℕ → ℕ
+some_before ys = position_or_len (λ n. ltb 0 n) ys
+
+go_right : (c : ℕ → ℕ) (ys : List ℕ) (j : ℕ) → ((k : ℕ) → k < length ys → c (j + k) ≡ get_or ys k 0)
+    → either none (rightward c j (length ys)) ≡ (if ltb (some_before ys) (length ys) then j + some_before ys else 0)
+unfolding rightward
+go_right c [] j h = refl
+go_right c (y ∷ ys) j h =
+    let here : c j ≡ y = ap c (omega arith) ∙ h 0 (omega arith) in
+    let rest = go_right c ys (suc j) (λ k l. ap c (omega arith) ∙ h (suc k) (omega arith)) in
+    let k = some_before ys in
+    split (ltb 0 y)
+    (λ t. rw (here, t, lt-ltb 0 (suc (length ys)) (omega arith)) (omega arith))
+    (λ t.
+    rw (here, t)
+    (split (ltb k (length ys))
+    (λ u.
+    let l : 1 + k < suc (length ys) = (let w = ltb-true k (length ys) u in omega arith) in
+    let e : suc j + k ≡ j + (1 + k) = omega arith in
+    rw (lt-ltb (1 + k) (suc (length ys)) l) ((rw u at rest) ∙ e))
+    (λ u.
+    let l : suc (length ys) ≤ 1 + k = (let w = ltb-false k (length ys) u in omega arith) in
+    rw (le-ltb (1 + k) (suc (length ys)) l) (rw u at rest))))
+
+pub first_source : (numbers : List ℕ) → unwrap_or (position (λ n. ltb 0 n) numbers) 0 ≡ source (λ k. get_or numbers k 0) (length numbers) 0
+first_source numbers =
+    let c : ℕ → ℕ = λ k. get_or numbers k 0 in
+    let k = some_before numbers in
+    let e = sym (go_right c numbers 0 (λ i l. ap c (omega arith))) ∙ from_left c (length numbers) in
+    split (ltb k (length numbers))
+    (λ t.
+    let z : k ≡ 0 + k = omega arith in
+    rw t (z ∙ (rw t at e)))
+    (λ t. rw t (rw t at e))
 
 -- ---- counts that agree on the row have the same sources
 left_same : (c d : ℕ → ℕ) (j : ℕ) → ((k : ℕ) → k < j → c k ≡ d k) → leftward c j ≡ leftward d j
@@ -154,10 +167,7 @@ held_same s s' c c' w j l hs hc =
     let m : k < w = source_below c' w j l in
     rw (source_same c c' w j l hc, hs k m, hc k m)
 
--- the first counted column is a column, and what it holds goes to those before it
-pub first_below : (c : ℕ → ℕ) (w f : ℕ) → f ≡ source c w 0 → 0 < w → f < w
-first_below c w f e h = rw e (source_below c w 0 h)
-
+-- what the first counted column holds goes to those before it
 pub held_first : (s : ℕ → Float) (c : ℕ → ℕ) (w f : ℕ) (v : Float) → f ≡ source c w 0 → v ≡ s f ⊘ decimal (c f) 1 → v ≡ held s c w (0 - 1)
 unfolding held
 held_first s c w f v e h = rw (← e) h

@@ -1,5 +1,5 @@
 -- Sorting values that are finite and above 0: the result is sorted, and a permutation. Assumes nothing.
-use Prim.Native.Nat.{ℕ, zero, suc, ◌*◌, ◌≤◌, ◌<◌}
+use Prim.Native.Nat.{ℕ, zero, suc, ◌*◌, ◌<◌}
 use mathlib.Core.Path.{◌≡◌, refl, sym, subst}
 use mathlib.Core.Bool.{true, false}
 use mathlib.Core.Logic.{◌⊎◌, inl, inr, ⊎_map}
@@ -8,8 +8,7 @@ use mathlib.Core.List.{List, [], ◌∷◌, ◌++◌, append-nil, Permᴰ}
 use native.Mathlib.Nat.{le_of_suc-le-suc}
 use native.Mathlib.Omega.{arith}
 use lib.Dec.{T}
-use lib.ListN.{length, take, get_or}
-use lib.Seq.{get_or-take, length-take-le}
+use lib.ListN.{length, get_or}
 use lib.Ieee.{Float, nan, inf, fin, lt, up, down}
 use lib.Ieee.Positive.{positive}
 use borrow.Author.Tests.{le-ltb}
@@ -34,13 +33,10 @@ abbrev pub Ordered : List Float → Type 0
 Ordered [] = Unit {0}
 Ordered (x ∷ xs) = Over x xs × Ordered xs
 
-pos_in : (xs : List Float) (i : ℕ) → Pos xs → i < length xs → T (positive (get_or xs i nan))
+pub pos_in : (xs : List Float) (i : ℕ) → Pos xs → i < length xs → T (positive (get_or xs i nan))
 pos_in [] i p h = absurd (omega arith)
 pos_in (x ∷ xs) zero p h = p.0
 pos_in (x ∷ xs) (suc i) p h = pos_in xs i p.1 (le_of_suc-le-suc h)
-
-pub pos_at : (xs : List Float) (n i : ℕ) → Pos (take n xs) → n ≤ length xs → i < n → T (positive (get_or xs i nan))
-pos_at xs n i p h k = subst (λ (x : Float). T (positive x)) (get_or-take n xs i nan k) (pos_in (take n xs) i p (simp length-take-le (omega arith)))
 
 over_trans : (j k : Float) (xs : List Float) → Under j k → Over k xs → Over j xs
 over_trans j k [] h o = tt

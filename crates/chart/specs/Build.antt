@@ -1,12 +1,13 @@
 -- Document 01: "Build checks 1, 2, 15, 16, 17. .. Build returns both axis lengths and writes axis entries, cells and counts in use, nothing else."
-use Rattle.std.specs.Prelude.{ℕ, zero, suc, ◌≡◌, Bool, not, ◌||◌, List, ◌++◌, ltb, length, drop, Float}
+use Rattle.std.specs.Prelude.{ℕ, zero, suc, ◌≡◌, Bool, not, ◌||◌, List, ◌++◌, ltb, length, drop, Float, Result}
 use Rattle.limits.specs.Checks.{first, none}
-use Rattle.limits.specs.Outcome.{Outcome, done, refused, answered, unless_refused}
+use Rattle.limits.specs.Outcome.{Outcome, answered, unless_refused}
 use Rattle.grid.specs.Layout.{cell_at, values, partly}
 use Rattle.chart.specs.Quotes.{Quote, Columns, quotes, is_short, all_in_range}
 use Rattle.chart.specs.Cells.{Axes, axes, count, cell}
-use Rattle.chart.specs.declared.Built.{Built}
-use Rattle.chart.specs.declared.Built.TheVariants.{Surface, Refused}
+use Rattle.limits.specs.Refusals.{outcome_with}
+use Rattle.limits.specs.declared.Refusal.{Refusal}
+use Rattle.chart.specs.declared.Lengths.{Lengths}
 
 -- The values in the front of a list, and the rest of it as it was.
 abbrev pub front : List Float → List Float → List Float
@@ -47,11 +48,7 @@ refusal c kept s =
     (first (ltb 32 (length x.expiries)) 17
     none))))
 
--- What an accepted build returns: both axis lengths.
-pub record Lengths : Type 0 where
-  pub strikes : ℕ
-  pub expiries : ℕ
-
+-- What an accepted build returns, and what stands beside a number.
 abbrev pub lengths : Axes → Lengths
 lengths x = record { strikes = length x.strikes; expiries = length x.expiries }
 
@@ -59,9 +56,8 @@ abbrev pub no_lengths : Lengths
 no_lengths = record { strikes = 0; expiries = 0 }
 
 -- The answer in document 01's terms.
-abbrev pub outcome : Built → Outcome Lengths
-outcome (Surface strikes expiries) = done (record { strikes = strikes; expiries = expiries })
-outcome (Refused number) = refused number (record { strikes = 0; expiries = 0 })
+abbrev pub outcome : Result Lengths Refusal → Outcome Lengths
+outcome answer = outcome_with no_lengths answer
 
 -- What an accepted build of the quotes makes of the lent buffers.
 abbrev pub surface_of : List Quote → Buffers → Buffers
@@ -77,10 +73,10 @@ surface_of qs s =
     }
 
 -- What a build leaves whose checks give this number: s are the buffers at entry, s' at exit.
-pub record BuildsTo (number : ℕ) (qs : List Quote) (s : Buffers) (answer : Built) (s' : Buffers) : Type 0 where
-  pub answers : outcome answer ≡ answered number no_lengths (lengths (axes qs))
+pub record BuildsTo (number : ℕ) (qs : List Quote) (s : Buffers) (answer : Outcome Lengths) (s' : Buffers) : Type 0 where
+  pub answers : answer ≡ answered number no_lengths (lengths (axes qs))
   pub buffers : s' ≡ unless_refused number (surface_of qs s) s
 
 -- A build of the columns' first `kept` quotes.
-abbrev pub Builds : Columns → ℕ → Buffers → Built → Buffers → Type 0
+abbrev pub Builds : Columns → ℕ → Buffers → Outcome Lengths → Buffers → Type 0
 Builds c kept s answer s' = BuildsTo (refusal c kept s) (quotes c kept) s answer s'

@@ -1,15 +1,15 @@
 -- What the private steps of a build hand to each other.
-use Rattle.std.specs.Prelude.{ℕ, ◌≤◌, ◌<◌, ◌≡◌, Bool, List, [], ◌∷◌, T, ltb, length, take, get_or, Float}
+use Rattle.std.specs.Prelude.{ℕ, ◌≤◌, ◌<◌, ◌≡◌, Bool, true, List, [], ◌∷◌, T, ltb, length, get_or, Float}
 use Rattle.std.specs.Float.{nan}
 use Rattle.std.specs.Float.Ieee.Positive.{positive}
 use Rattle.floats.specs.Operators.{decimal, ◌⊖◌, ◌⊘◌, ◌≺◌}
 use Rattle.limits.specs.Checks.{first, none}
 use Rattle.grid.specs.Layout.{cell_at}
-use Rattle.chart.specs.Quotes.{Quote, Columns, quotes, is_short}
+use Rattle.chart.specs.Quotes.{Quote, Columns, is_short, all_in_range}
 use Rattle.chart.specs.Axis.{hair, sorted_into, thinned, place}
 use Rattle.chart.specs.Cells.{Axes, axes, counted, count, added, source, cell}
 use Rattle.chart.specs.Meaning.{Sorted}
-use Rattle.chart.specs.Build.{Buffers, table, is_wrong, refusal}
+use Rattle.chart.specs.Build.{Buffers, table, is_wrong}
 
 -- Two axes: columns by strike, rows by expiry.
 abbrev pub axes_of : List Float → List Float → Axes
@@ -43,9 +43,11 @@ abbrev pub OnAxes : Axes → List Quote → Type 0
 OnAxes x [] = Unit {0}
 OnAxes x (q ∷ qs) = OnAxis x.expiries q.expiry × OnAxis x.strikes q.strike × OnAxes x qs
 
--- Nothing is filed yet.
-abbrev pub Blank : List Float → List ℕ → Type 0
-Blank sums numbers = (p : ℕ) → p < 2048 → (get_or sums p nan ≡ decimal 0 1) × (get_or numbers p 0 ≡ 0)
+-- Nothing is filed yet, in any of the cells that there can be.
+pub record Blank (sums : List Float) (numbers : List ℕ) : Type 0 where
+  pub cells : (length sums ≡ 2048) × (length numbers ≡ 2048)
+  pub sum : (p : ℕ) → p < 2048 → get_or sums p nan ≡ decimal 0 1
+  pub number : (p : ℕ) → p < 2048 → get_or numbers p 0 ≡ 0
 
 -- The sums and counts of all cells, when the quotes have been filed.
 pub record Filed (x : Axes) (qs : List Quote) (sums : List Float) (numbers : List ℕ) : Type 0 where
@@ -76,16 +78,15 @@ axes_refusal strikes expiries =
     (first (ltb 32 expiries) 17
     none)
 
--- What a build comes to before it writes: its number and, where there is none, both axes in the fronts of two arrays.
-pub record Planned (c : Columns) (kept : ℕ) (small : Bool) (number columns rows : ℕ) (ks ts : List Float) : Type 0 where
-  pub checked :
-      number ≡ number_by c kept small (axes_refusal (length (axes (quotes c kept)).strikes) (length (axes (quotes c kept)).expiries))
-  pub strikes : number ≡ none → take columns ks ≡ (axes (quotes c kept)).strikes
-  pub expiries : number ≡ none → take rows ts ≡ (axes (quotes c kept)).expiries
-  pub long : (columns ≤ length ks) × (rows ≤ length ts)
-
--- No check holds, and these are the axes.
-pub record Accepted (c : Columns) (kept : ℕ) (s : Buffers) (ks ts : List Float) : Type 0 where
-  pub unchecked : refusal c kept s ≡ none
-  pub strikes : ks ≡ (axes (quotes c kept)).strikes
-  pub expiries : ts ≡ (axes (quotes c kept)).expiries
+-- What a build writes that no check turned down: quotes in range, into buffers that are long enough, on their axes.
+pub record Accepted (qs : List Quote) (s : Buffers) (ks ts : List Float) : Type 0 where
+  pub few : length qs ≤ 1024
+  pub ranged : all_in_range qs ≡ true
+  pub long_strikes : 64 ≤ length s.strikes
+  pub long_expiries : 32 ≤ length s.expiries
+  pub long_grid : 2048 ≤ length s.grid
+  pub long_counts : 2048 ≤ length s.counts
+  pub narrow : length ks ≤ 64
+  pub low : length ts ≤ 32
+  pub strikes : ks ≡ (axes qs).strikes
+  pub expiries : ts ≡ (axes qs).expiries

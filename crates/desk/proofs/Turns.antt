@@ -4,18 +4,14 @@ use mathlib.Core.Path.{◌≡◌, refl, sym, ap, subst, ◌∙◌}
 use mathlib.Core.Bool.{Bool, true, false, true≢false}
 use mathlib.Core.List.{List, [], ◌∷◌, ◌++◌}
 use native.Mathlib.Omega.{arith}
-use lib.ListN.{length, take, length-take}
+use lib.ListN.{length}
 use Rattle.ledger.specs.Book.{Columns}
-use Rattle.protocol.specs.Calls.{Turned, turn_left, turned}
+use Rattle.protocol.specs.Calls.{Left, Turned, turned}
 use Rattle.protocol.specs.Turns.{count_of, HadRoom, Held, holds, keeps, held_after}
 use Rattle.protocol.specs.Claims.{Reads}
 use Rattle.protocol.specs.declared.State.{State}
-use Rattle.protocol.specs.declared.Step.{Step}
 use Rattle.protocol.proofs.Programs.{turned_within, had_room}
-use Rattle.desk.specs.Served.{parts_of, Heard, Served}
-use Rattle.desk.specs.declared.Going.{Going}
-use Rattle.desk.specs.declared.Got.{Got}
-use Rattle.desk.specs.declared.Got.TheVariants.{Part, Failed}
+use Rattle.desk.specs.Served.{Heard, Served}
 
 -- ---- a turn
 
@@ -25,21 +21,21 @@ unfolding turned
 part_came s c [] out e = absurd (true≢false (sym e))
 part_came s c (b ∷ bs) out e = omega arith
 
-module _ (s : State) (c : Columns) (part out : List ℕ) (r : Step) (c' : Columns) (out' : List ℕ) (e : turn_left r c' out' ≡ turned s c part out) where
-  pub within : count_of r.fed.text ≤ length out'
+module _ (s : State) (c : Columns) (part out : List ℕ) (l : Left) (more : Bool) (e : record { left = l; more = more } ≡ turned s c part out) where
+  pub within : count_of l.fed.text ≤ length l.out
   within = subst (λ (z : Turned). count_of z.left.fed.text ≤ length z.left.out) (sym e) (turned_within s c part out)
 
-  pub roomy : 19 * length part ≤ length out → 19 ≤ length out → HadRoom r.fed.text
+  pub roomy : 19 * length part ≤ length out → 19 ≤ length out → HadRoom l.fed.text
   roomy h k = subst (λ (z : Turned). HadRoom z.left.fed.text) (sym e) (had_room s c part out h k)
 
-  next : holds r.fed.state c' out' ≡ held_after (holds s c out) (part ∷ [])
+  next : keeps l ≡ held_after (holds s c out) (part ∷ [])
   unfolding held_after
   next = ap (λ (z : Turned). keeps z.left) e
 
-  pub stopped : Heard (length part) (holds s c out) (part ∷ []) (holds r.fed.state c' out') false
+  pub stopped : Heard (length part) (holds s c out) (part ∷ []) (keeps l) false
   stopped = record { turns = next; one = omega arith; reads_on = λ z. absurd (true≢false (sym z)) }
 
-  pub heard : Heard (length part) (holds s c out) (part ∷ []) (holds r.fed.state c' out') r.more
+  pub heard : Heard (length part) (holds s c out) (part ∷ []) (keeps l) more
   heard =
       record {
         turns = next;
@@ -47,26 +43,11 @@ module _ (s : State) (c : Columns) (part out : List ℕ) (r : Step) (c' : Column
         reads_on = λ z. (omega arith, (part_came s c part out (sym (ap (λ (t : Turned). t.more) e) ∙ z), omega arith, tt));
       }
 
--- ---- what a read gave
+-- ---- where a read failed
 
-fits : (count : ℕ) (input : List ℕ) → length (take count input) ≤ length input
-fits count input = rw length-take (omega arith)
-
-pub part_heard : (got : Got) (count : ℕ) (input : List ℕ) (h h' : Held) (more : Bool) → got ≡ Part count →
-    Heard (length (take count input)) h (take count input ∷ []) h' more → Heard (length input) h (parts_of got input) h' more
-part_heard got count input h h' more e g =
-    subst (λ (z : Got). Heard (length input) h (parts_of z input) h' more) (sym e)
-    (record {
-      turns = g.turns;
-      one = omega arith;
-      reads_on = λ z. let k = g.reads_on z in (k.0, (k.1.0, fits count input, tt));
-    })
-
-pub none_heard : (got : Got) (input : List ℕ) (h : Held) → got ≡ Failed → Heard (length input) h (parts_of got input) h false
+pub none_heard : (most : ℕ) (h : Held) → Heard most h [] h false
 unfolding held_after
-none_heard got input h e =
-    subst (λ (z : Got). Heard (length input) h (parts_of z input) h false) (sym e)
-    (record { turns = refl; one = omega arith; reads_on = λ z. absurd (true≢false (sym z)) })
+none_heard most h = record { turns = refl; one = omega arith; reads_on = λ z. absurd (true≢false (sym z)) }
 
 -- ---- turns one after the other
 
@@ -79,28 +60,19 @@ reads_both : (most : ℕ) (xs ys : List (List ℕ)) → Reads most xs → Reads 
 reads_both most [] ys h k = k
 reads_both most (x ∷ xs) ys h k = (h.0, h.1, reads_both most xs ys h.2 k)
 
-pub at_first : (most : ℕ) (h : Held) (s : State) (t : Going) → s ≡ h.state → t ≡ record { state = s; more = true } →
-    Served most h (holds t.state h.columns h.out) t.more
+pub at_first : (most : ℕ) (h : Held) → Served most h h true
 unfolding held_after
-at_first most h s t e g =
-    record {
-      earlier = [];
-      latest = [];
-      turns = ap (λ (z : Going). holds z.state h.columns h.out) g ∙ ap (λ (z : State). holds z h.columns h.out) e;
-      gave = tt;
-      one = omega arith;
-      reads_on = λ _. tt;
-    }
+at_first most h = record { earlier = []; latest = []; turns = refl; gave = tt; one = omega arith; reads_on = λ _. tt }
 
-pub and_then : (most : ℕ) (h h' h'' : Held) (more goes : Bool) (size : ℕ) (parts : List (List ℕ)) → more ≡ true → size ≡ most →
-    Served most h h' more → Heard size h' parts h'' goes → Served most h h'' goes
-and_then most h h' h'' more goes size parts t n s g =
+pub and_then : (most : ℕ) (h h' h'' : Held) (goes : Bool) (size : ℕ) (parts : List (List ℕ)) → size ≡ most →
+    Served most h h' true → Heard size h' parts h'' goes → Served most h h'' goes
+and_then most h h' h'' goes size parts n s g =
     let before = s.earlier ++ s.latest in
     record {
       earlier = before;
       latest = parts;
       turns = g.turns ∙ ap (λ (z : Held). held_after z parts) s.turns ∙ sym (after_both before h parts);
-      gave = reads_both most s.earlier s.latest s.gave (s.reads_on t);
+      gave = reads_both most s.earlier s.latest s.gave (s.reads_on refl);
       one = g.one;
       reads_on = λ z. subst (λ (k : ℕ). Reads k parts) n (g.reads_on z).1;
     }

@@ -1,19 +1,24 @@
 -- What the program holds after its reads, over `lines`' turns. Which bytes a read gives is not known here, nor what becomes of a write.
-use Rattle.std.specs.Prelude.{ℕ, ◌≤◌, ◌<◌, ◌≡◌, Bool, true, List, [], ◌∷◌, ◌++◌, length, take}
+use Rattle.std.specs.Prelude.{ℕ, ◌≤◌, ◌<◌, ◌≡◌, Bool, true, false, List, [], ◌∷◌, ◌++◌, length, take, Result, Ok, Err}
+use Rattle.std.specs.declared.ops.ControlFlow.{ControlFlow}
+use Rattle.std.specs.declared.ops.ControlFlow.TheVariants.{Continue, Break}
 use Rattle.protocol.specs.Turns.{Held, held_after}
 use Rattle.protocol.specs.Claims.{Reads}
-use Rattle.desk.specs.declared.Got.{Got}
-use Rattle.desk.specs.declared.Got.TheVariants.{Part, Failed}
+use Rattle.protocol.specs.declared.State.{State}
 
--- The part of the input that a read gave: the front of the buffer that it was read into, or none.
-abbrev pub parts_of : Got → List ℕ → List (List ℕ)
-parts_of (Part count) input = take count input ∷ []
-parts_of Failed input = []
+-- The part of the input that a read gave: the front of the buffer that it was read into, or none where it failed.
+abbrev pub parts_of : {E : Type 0} → Result ℕ E → List ℕ → List (List ℕ)
+parts_of (Ok count) input = take count input ∷ []
+parts_of (Err why) input = []
 
--- A read gives no more than the buffer holds.
-abbrev pub Within : Got → List ℕ → Type 0
-Within (Part count) input = count ≤ length input
-Within Failed input = Unit {0}
+-- What a turn leads to: the state that is held, and whether the program reads on.
+abbrev pub state_in : ControlFlow State State → State
+state_in (Continue s) = s
+state_in (Break s) = s
+
+abbrev pub goes_on : ControlFlow State State → Bool
+goes_on (Continue s) = true
+goes_on (Break s) = false
 
 -- From h to h' by a turn on what a read gave, if it gave anything. The program reads on only where the read gave something.
 pub record Heard (most : ℕ) (h : Held) (parts : List (List ℕ)) (h' : Held) (more : Bool) : Type 0 where

@@ -6,47 +6,23 @@
 #![tactic(auto)]
 
 ghost use Rattle.std.specs.Prelude.{◌*◌, ◌≤◌, ◌≡◌, [], ◌∷◌, length, take};
-ghost use Rattle.ledger.specs.Book.{columns_of};
+ghost use Rattle.std.specs.Io.{ReadsAtMost};
+ghost use Rattle.book.specs.Lent.{columns_held, SameColumns};
 ghost use Rattle.protocol.specs.Calls.{fresh};
 ghost use Rattle.protocol.specs.Turns.{count_of, HadRoom, holds};
-ghost use Rattle.desk.specs.Served.{parts_of, Within, Heard, Served};
+ghost use Rattle.desk.specs.Served.{parts_of, state_in, goes_on, Heard, Served};
 
-use protocol::{State, Text};
+use book::QuoteColumns;
+use protocol::{Short, State};
 use std::io::{Read, Stdin};
+use std::ops::ControlFlow;
 
 const STDOUT_FILENO: i32 = 1;
 
 const STDERR_FILENO: i32 = 2;
 
-// What a read gave: so many bytes in the front of the buffer, none of them at the end of the input.
-#[derive(Drop)]
-enum Got {
-    Part { count: usize },
-    Failed,
-}
-
-// The state between two reads, and whether to read on.
-#[derive(Drop)]
-struct Going {
-    state: State,
-    more: bool,
-}
-
-fn hold(state: State, more: bool) -> Going
-    ensures { result ≡ record { state = state; more = more } }
-{
-    Going { state, more }
-}
-
-fn read_part(stdin: Stdin, input: &mut [u8]) -> Got
-    ensures { Within result input.new }
-{
-    let mut source = stdin;
-    match source.read(input) {
-        Ok(count) => Got::Part { count },
-        Err(_) => Got::Failed,
-    }
-}
+// What a turn leads to: the state that is held, and whether to read on.
+type Going = ControlFlow<State, State>;
 
 // All that is written: the front of the buffer, as far as the answers go.
 fn put_out(text: &[u8], count: usize, out: &[u8]) -> bool
@@ -56,101 +32,90 @@ fn put_out(text: &[u8], count: usize, out: &[u8]) -> bool
 }
 
 // A buffer of 19 bytes for each byte of a read is never too short for the answers (`roomy` in protocol/specs/Claims).
-fn write_text(text: Text, out: &[u8]) -> bool
+fn write_text(text: Result<usize, Short>, out: &[u8]) -> bool
     requires text_in_bounds { count_of text ≤ length out.now }
     requires had_room { HadRoom text }
 {
-    match text {
-        Text::Written { count } => put_out(&out[..count], count, out),
-        Text::Short { lines: _ } => false,
+    let written = match text {
+        Ok(count) => put_out(&out[..count], count, out),
+        Err(_) => false,
+    };
+    if !written {
+        io::write_all(STDERR_FILENO, b"desk: cannot write\n");
     }
+    written
 }
 
 // A turn on a part of the input, whose text is written.
-fn hear(
-    state: State,
-    part: &[u8],
-    strikes: &mut [f64],
-    expiries: &mut [f64],
-    volatilities: &mut [f64],
-    out: &mut [u8],
-) -> Going
+fn hear(state: State, part: &[u8], columns: &mut QuoteColumns<'_>, out: &mut [u8]) -> Going
     requires part_in_bounds { 19 * length part.now ≤ length out.old }
     requires in_bounds { 19 ≤ length out.old }
-    ensures { Heard (length part.now)
-        (holds state (columns_of strikes.old expiries.old volatilities.old) out.old)
+    ensures same_memory { SameColumns columns.new columns.old }
+    ensures heard { Heard (length part.now)
+        (holds state (columns_held columns.old) out.old)
         (part.now ∷ [])
-        (holds result.state (columns_of strikes.new expiries.new volatilities.new) out.new) result.more }
+        (holds (state_in result) (columns_held columns.new) out.new) (goes_on result) }
 {
-    let step = lines::turn(state, part, strikes, expiries, volatilities, out);
-    let fed = step.fed;
-    let next = fed.state;
-    let text = fed.text;
-    if !write_text(text, &out[..]) {
-        io::write_all(STDERR_FILENO, b"desk: cannot write\n");
-        return hold(next, false);
-    }
-    hold(next, step.more)
-}
-
-// What a read gave is heard; where it failed, nothing is.
-fn answer(
-    got: Got,
-    input: &[u8],
-    state: State,
-    strikes: &mut [f64],
-    expiries: &mut [f64],
-    volatilities: &mut [f64],
-    out: &mut [u8],
-) -> Going
-    requires within { Within got input.now }
-    requires input_in_bounds { 19 * length input.now ≤ length out.old }
-    requires in_bounds { 19 ≤ length out.old }
-    ensures { Heard (length input.now)
-        (holds state (columns_of strikes.old expiries.old volatilities.old) out.old)
-        (parts_of got input.now)
-        (holds result.state (columns_of strikes.new expiries.new volatilities.new) out.new) result.more }
-{
-    match got {
-        Got::Part { count } => hear(state, &input[..count], strikes, expiries, volatilities, out),
-        Got::Failed => {
-            io::write_all(STDERR_FILENO, b"desk: cannot read\n");
-            hold(state, false)
+    match lines::turn(state, part, columns, out) {
+        ControlFlow::Continue(fed) => {
+            if !write_text(fed.text, out) {
+                return ControlFlow::Break(fed.state);
+            }
+            ControlFlow::Continue(fed.state)
+        }
+        ControlFlow::Break(last) => {
+            write_text(last.text, out);
+            ControlFlow::Break(last.state)
         }
     }
 }
 
-// Nothing says that an input ends, so the loop counts its turns down, from a number that no run uses up.
+// What a read gave is heard; where it failed, nothing is.
+fn answer(
+    got: std::io::Result<usize>,
+    input: &[u8],
+    state: State,
+    columns: &mut QuoteColumns<'_>,
+    out: &mut [u8],
+) -> Going
+    requires within { ReadsAtMost got input.now }
+    requires input_in_bounds { 19 * length input.now ≤ length out.old }
+    requires in_bounds { 19 ≤ length out.old }
+    ensures same_memory { SameColumns columns.new columns.old }
+    ensures heard { Heard (length input.now)
+        (holds state (columns_held columns.old) out.old)
+        (parts_of got input.now)
+        (holds (state_in result) (columns_held columns.new) out.new) (goes_on result) }
+{
+    match got {
+        Ok(count) => hear(state, &input[..count], columns, out),
+        Err(_) => {
+            io::write_all(STDERR_FILENO, b"desk: cannot read\n");
+            ControlFlow::Break(state)
+        }
+    }
+}
+
+// Nothing says that an input ends, so the loop has an end that no run comes to.
 fn serve(
-    stdin: Stdin,
+    mut stdin: Stdin,
     input: &mut [u8],
-    strikes: &mut [f64],
-    expiries: &mut [f64],
-    volatilities: &mut [f64],
+    columns: &mut QuoteColumns<'_>,
     out: &mut [u8],
 ) -> Going
     requires input_in_bounds { 19 * length input.old ≤ length out.old }
     requires in_bounds { 19 ≤ length out.old }
-    ensures { Served (length input.old)
-        (holds fresh (columns_of strikes.old expiries.old volatilities.old) out.old)
-        (holds result.state (columns_of strikes.new expiries.new volatilities.new) out.new) result.more }
+    ensures same_memory { SameColumns columns.new columns.old }
+    ensures served { Served (length input.old)
+        (holds fresh (columns_held columns.old) out.old)
+        (holds (state_in result) (columns_held columns.new) out.new) (goes_on result) }
 {
-    let mut t = hold(lines::start(), true);
-    let mut turns = u64::MAX;
-    while turns > 0 && t.more {
-        let got = read_part(stdin, input);
-        t = answer(
-            got,
-            &input[..],
-            t.state,
-            strikes,
-            expiries,
-            volatilities,
-            out,
-        );
-        turns -= 1;
+    let mut state = lines::start();
+    for _ in 0..u64::MAX {
+        let got = stdin.read(input);
+        state = answer(got, input, state, columns, out)?;
     }
-    t
+    ControlFlow::Continue(state)
 }
 
 fn main(rt: HostRuntime) {
@@ -159,12 +124,10 @@ fn main(rt: HostRuntime) {
     let mut expiries = [0.0f64; 1024];
     let mut volatilities = [0.0f64; 1024];
     let mut out = [0u8; 77824];
-    serve(
-        rt.stdin(),
-        &mut input,
-        &mut strikes,
-        &mut expiries,
-        &mut volatilities,
-        &mut out,
-    );
+    let mut columns = QuoteColumns {
+        strikes: &mut strikes,
+        expiries: &mut expiries,
+        volatilities: &mut volatilities,
+    };
+    serve(rt.stdin(), &mut input, &mut columns, &mut out);
 }

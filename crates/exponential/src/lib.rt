@@ -1,12 +1,22 @@
 // exp and ln on f64, each equal to its definition of crate `elementary` for every input.
 #![tactic(auto)]
 
-ghost use Rattle.std.specs.Prelude.{◌≡◌, ◌-◌, ◌<◌, T, length};
+ghost use Rattle.std.specs.Prelude.{◌≡◌, ◌-◌, ◌<◌, T, false, length, is_nan};
 ghost use Rattle.std.specs.Int.Signed.{mag};
 ghost use Rattle.elementary.specs.Tables.{entry_of, polynomial, factorial, odd_number, last_e, last_l, Ruled};
-ghost use Rattle.elementary.specs.Exp.{exp, floor, two_to};
+ghost use Rattle.std.specs.Float.Ieee.Positive.{positive};
+ghost use Rattle.floats.specs.Operators.{◌≺◌};
+ghost use Rattle.elementary.specs.Exp.{exp, floor, two_to, overflow_limit, underflow_limit};
 ghost use Rattle.elementary.specs.Ln.{ln, ln_at, ln_from};
 ghost use Rattle.elementary.specs.Steps.{in_exponent, Small};
+
+use floats::FIELD;
+use std::f64::consts::{LOG2_E, SQRT_2};
+
+// fdlibm's split of ln 2: H + J.
+const H: f64 = 0.693147180369123816490;
+
+const J: f64 = 1.90821492927058770002e-10;
 
 // The f64 nearest 1/i!.
 const E: [f64; 14] = [
@@ -41,7 +51,8 @@ const L: [f64; 11] = [
     0.047619047619047616,
 ];
 
-// Table E: its rule holds over the whole array.
+// Table E: its rule holds over the whole array. Each table has a rule of its own: one function for both would need a trait to name the rule, which is
+// longer than the two.
 fn table_e() -> [f64; 14]
     ensures { Ruled factorial last_e result }
 {
@@ -62,15 +73,13 @@ fn horner(table: &[f64], x: f64) -> f64
 {
     let degree = table.len() - 1;
     let mut p = table[degree];
-    let mut n: usize = 0;
-    while n < degree {
-        p = p * x + table[degree - 1 - n];
-        n += 1;
+    for c in table[..degree].iter().rev() {
+        p = p * x + *c;
     }
     p
 }
 
-// The largest whole number not above t.
+// The largest whole number not above t. `f64::floor` would round by bits, and its f64 be cut after it: this is one cut and one test.
 fn floor(t: f64) -> i64
     requires { Small t }
     ensures { result ≡ floor t }
@@ -84,30 +93,39 @@ fn two_to(k: i64) -> f64
     requires { T (in_exponent k) }
     ensures { result ≡ two_to k }
 {
-    f64::from_bits(((k + 1023) as u64) * 4503599627370496)
+    f64::from_bits(((k + 1023) as u64) * FIELD)
+}
+
+// exp from -745 to 709: p * 2^k, in two products where 2^k is no normal f64.
+fn exp_between(v: f64) -> f64
+    requires number { is_nan v ≡ false }
+    requires high { overflow_limit ≺ v ≡ false }
+    requires low { v ≺ underflow_limit ≡ false }
+    ensures { result ≡ exp v }
+{
+    let k = floor(v * LOG2_E + 0.5);
+    let f = k as f64;
+    let r = (v - f * H) - f * J;
+    let p = horner(&table_e(), r);
+    if v < -708.0 {
+        p * two_to(k + 200) * two_to(-200)
+    } else {
+        p * two_to(k)
+    }
 }
 
 pub fn exp(v: f64) -> f64
     ensures { result ≡ exp v }
 {
-    if v != v {
-        return v;
+    if v.is_nan() {
+        v
+    } else if v > 709.0 {
+        f64::INFINITY
+    } else if v < -745.0 {
+        0.0
+    } else {
+        exp_between(v)
     }
-    if v > 709.0 {
-        return 1.0 / 0.0;
-    }
-    if v < -745.0 {
-        return 0.0;
-    }
-    let k = floor(v * 1.4426950408889634 + 0.5);
-    let f = k as f64;
-    let r = (v - f * 0.693147180369123816490) - f * 1.90821492927058770002e-10;
-    let table = table_e();
-    let p = horner(&table, r);
-    if v < -708.0 {
-        return p * two_to(k + 200) * two_to(-200);
-    }
-    p * two_to(k)
 }
 
 // ln of m * 2^e, with m at most 1.4142135623730951.
@@ -116,10 +134,9 @@ fn ln_at(m: f64, e: i64) -> f64
     ensures { result ≡ ln_at m e }
 {
     let z = (m - 1.0) / (m + 1.0);
-    let table = table_l();
-    let q = horner(&table, z * z);
+    let q = horner(&table_l(), z * z);
     let f = e as f64;
-    f * 0.693147180369123816490 + ((2.0 * z) * q + f * 1.90821492927058770002e-10)
+    f * H + ((2.0 * z) * q + f * J)
 }
 
 // ln of m * 2^e, with m in [1, 2).
@@ -127,30 +144,37 @@ fn ln_from(m: f64, e: i64) -> f64
     requires { mag e < 5000 }
     ensures { result ≡ ln_from m e }
 {
-    if m > 1.4142135623730951 {
+    if m > SQRT_2 {
         ln_at(m * 0.5, e + 1)
     } else {
         ln_at(m, e)
     }
 }
 
+// ln of a finite float above 0: its digits with the point after the first one, and how far that moves it.
+fn ln_above_zero(v: f64) -> f64
+    requires { T (positive v) }
+    ensures { result ≡ ln v }
+{
+    let p = floats::taken_apart(v);
+    ln_from(
+        f64::from_bits(p.digits + 1022 * FIELD),
+        p.size as i64 - 1075,
+    )
+}
+
 pub fn ln(v: f64) -> f64
     ensures { result ≡ ln v }
 {
-    if v != v {
-        return v;
+    if v.is_nan() {
+        v
+    } else if v < 0.0 {
+        f64::NAN
+    } else if v == 0.0 {
+        f64::NEG_INFINITY
+    } else if v == f64::INFINITY {
+        v
+    } else {
+        ln_above_zero(v)
     }
-    if v < 0.0 {
-        return 0.0 / 0.0;
-    }
-    if v == 0.0 {
-        return -1.0 / 0.0;
-    }
-    if v == 1.0 / 0.0 {
-        return v;
-    }
-    let p = floats::taken_apart(v);
-    let d = p.digits;
-    let z = p.size;
-    ln_from(f64::from_bits(d + 4602678819172646912), (z as i64) - 1075)
 }

@@ -3,40 +3,36 @@
 
 ghost use Rattle.std.specs.Prelude.{◌≡◌, ◌≤◌, ◌<◌, length};
 ghost use Rattle.std.specs.Float.{nan};
-ghost use Rattle.gaps.specs.Gaps.{filled, forward, backward, swept, rows_swept, column, put_column, columns_swept, FillsGaps};
+ghost use Rattle.gaps.specs.Gaps.{filled, forward, backward, swept, rows_swept, column, put_column, columns_swept, fill_outcome, FillsGaps};
 
-use gaps::Filling;
+use limits::{Refusal, check};
 
+#[tactic(auto, using(floats::proofs::Signs::nan_is), unfolding(gaps::specs::Gaps::filled))]
 fn filled(last: f64, v: f64) -> f64
     ensures { result ≡ filled last v }
 {
-    if v != v { last } else { v }
+    if v.is_nan() { last } else { v }
 }
 
 fn forward_pass(row: &mut [f64])
     ensures { row.new ≡ forward nan row.old }
 {
     let mut last = grid::nan();
-    let n = row.len();
-    let mut j = 0;
-    while j < n {
-        let v = filled(last, row[j]);
-        row[j] = v;
-        last = v;
-        j += 1;
+    for cell in row.iter_mut() {
+        last = filled(last, *cell);
+        *cell = last;
     }
 }
 
+// `iter_mut().rev()`, and with it one function for both passes, would leave the proof without what the cells become: of such an iterator it knows lengths
+// alone.
 fn backward_pass(row: &mut [f64])
     ensures { row.new ≡ backward row.old }
 {
     let mut last = grid::nan();
-    let mut j = row.len();
-    while j > 0 {
-        j -= 1;
-        let v = filled(last, row[j]);
-        row[j] = v;
-        last = v;
+    for j in (0..row.len()).rev() {
+        last = filled(last, row[j]);
+        row[j] = last;
     }
 }
 
@@ -49,16 +45,14 @@ fn sweep(row: &mut [f64])
 }
 
 // Each row is lent as a part that starts in the grid's middle.
+#[tactic(auto, using(gaps::proofs::Passes::rows_step), unfolding(gaps::specs::Gaps::rows_swept))]
 fn sweep_rows(grid: &mut [f64], strikes: usize, expiries: usize)
     requires { (2048 ≤ length grid.old) × (strikes ≤ 64) × (expiries ≤ 32) }
     ensures { grid.new ≡ rows_swept expiries strikes grid.old }
 {
-    let mut i = 0;
-    while i < expiries {
-        let a = 64 * i;
-        let e = a + strikes;
-        sweep(&mut grid[a..e]);
-        i += 1;
+    for i in 0..expiries {
+        let start = 64 * i;
+        sweep(&mut grid[start..start + strikes]);
     }
 }
 
@@ -66,64 +60,50 @@ fn gather(cells: &mut [f64], grid: &[f64], j: usize)
     requires { (length cells.old ≤ 32) × (j < 64) × (2048 ≤ length grid.now) }
     ensures { cells.new ≡ column j (length cells.old) grid.now }
 {
-    let n = cells.len();
-    let mut i = 0;
-    while i < n {
-        cells[i] = grid[64 * i + j];
-        i += 1;
+    for (i, cell) in cells.iter_mut().enumerate() {
+        *cell = grid[64 * i + j];
     }
-}
-
-fn gather_swept(cells: &mut [f64], grid: &[f64], j: usize)
-    requires { (length cells.old ≤ 32) × (j < 64) × (2048 ≤ length grid.now) }
-    ensures { cells.new ≡ swept (column j (length cells.old) grid.now) }
-{
-    gather(cells, grid, j);
-    sweep(cells);
 }
 
 fn scatter(grid: &mut [f64], cells: &[f64], j: usize)
     requires { (length cells.now ≤ 32) × (j < 64) × (2048 ≤ length grid.old) }
     ensures { grid.new ≡ put_column j 0 cells.now grid.old }
 {
-    let n = cells.len();
-    let mut i = 0;
-    while i < n {
-        grid[64 * i + j] = cells[i];
-        i += 1;
+    for (i, cell) in cells.iter().enumerate() {
+        grid[64 * i + j] = *cell;
     }
 }
 
+// A column is swept in an array, where its cells stand side by side.
 fn sweep_column(grid: &mut [f64], expiries: usize, j: usize)
     requires { (2048 ≤ length grid.old) × (expiries ≤ 32) × (j < 64) }
     ensures { grid.new ≡ put_column j 0 (swept (column j expiries grid.old)) grid.old }
 {
-    let mut cells = [0.0f64; 32];
-    gather_swept(&mut cells[..expiries], &grid[..], j);
-    scatter(grid, &cells[..expiries], j);
+    let mut column = [0.0f64; 32];
+    let cells = &mut column[..expiries];
+    gather(cells, grid, j);
+    sweep(cells);
+    scatter(grid, cells, j);
 }
 
+#[tactic(auto, using(gaps::proofs::Columns::columns_step), unfolding(gaps::specs::Gaps::columns_swept))]
 fn sweep_columns(grid: &mut [f64], strikes: usize, expiries: usize)
     requires { (2048 ≤ length grid.old) × (strikes ≤ 64) × (expiries ≤ 32) }
     ensures { grid.new ≡ columns_swept strikes expiries grid.old }
 {
-    let mut j = 0;
-    while j < strikes {
+    for j in 0..strikes {
         sweep_column(grid, expiries, j);
-        j += 1;
     }
 }
 
 // Fills the gaps of any grid: rows, then columns.
-pub fn fill_gaps(grid: &mut [f64], strikes: usize, expiries: usize) -> Filling
-    ensures { FillsGaps strikes expiries grid.old result grid.new }
+#[tactic(auto, unfolding(gaps::specs::Gaps::fill_refusal, limits::specs::Checks::first, gaps::specs::Gaps::answered, limits::specs::Outcome::unless_refused))]
+pub fn fill_gaps(grid: &mut [f64], strikes: usize, expiries: usize) -> Result<(), Refusal>
+    ensures { FillsGaps strikes expiries grid.old (fill_outcome result) grid.new }
 {
-    let large = (strikes > 64) | (expiries > 32);
-    let number = limits::first(large, 2, limits::first(grid.len() < 2048, 15, 0));
-    if number != 0 {
-        return Filling::Refused { number };
-    }
+    check(strikes <= 64 && expiries <= 32, Refusal::OutOfBounds)?;
+    check(grid.len() >= 2048, Refusal::ShortBuffer)?;
     sweep_rows(grid, strikes, expiries);
     sweep_columns(grid, strikes, expiries);
-    Filling::Done
+    Ok(())
 }

@@ -19,7 +19,7 @@ use Rattle.floats.proofs.Whole.{significand_lt, exponent_fine, value_small, plac
 use Rattle.floats.specs.declared.Parts.{Parts}
 use Rattle.floats.specs.Operators.{◌≺◌}
 use Rattle.floats.specs.Digits.{Digits, PartsLaw, parts_of}
-use Rattle.floats.proofs.Tests.{split, true_of}
+use Rattle.floats.proofs.Tests.{split, holds, true_of}
 use Rattle.floats.proofs.Signs.{O, infinity, positive_of_lt, lt_of_above}
 
 -- ---- whole numbers: n = m * 2 ^ j, with m of at most 53 digits
@@ -245,6 +245,9 @@ digits_of v F P = go (dec_le 4503599627370496 (to_bits binary64 v))
     go : Dec (4503599627370496 ≤ to_bits binary64 v) → Digits v (parts_of v).digits (parts_of v).size
     go (yes y) = at_parts _ _ (high_digits v F P y)
     go (no f) = at_parts _ _ (low_digits v F P (lt_of_not-le f))
+
+pub digits_are : (v : Float) (r : Parts) → fits binary64 v ≡ true → T (positive v) → r ≡ parts_of v → Digits v r.digits r.size
+digits_are v r f p e = subst (λ (r : Parts). Digits v r.digits r.size) (sym e) (digits_of v (holds _ f) p)
 
 pub parts_law : PartsLaw
 parts_law = record { of_positive = digits_of }

@@ -127,7 +127,7 @@ lt_through (fin s a e) (fin t b d) (inf false) n h k = refl
 lt_through (fin s a e) (fin t b d) (fin u c g) n h k =
     below_through s t u (a * up e) (b * up d) (c * up g) (down e) (down d) (down g) (down_pos e) (down_pos d) (down_pos g) h k
 
-above_some : (y z : Float) → y ≺ z ≡ true → is_nan z ≡ false
+pub above_some : (y z : Float) → y ≺ z ≡ true → is_nan z ≡ false
 unfolding lt is_nan
 above_some nan z h = absurd (true≢false (sym h))
 above_some (inf s) nan h = absurd (true≢false (sym h))

@@ -1,20 +1,20 @@
 -- The tests against 0.0 and infinity, read as facts about a float's shape. Assumes nothing.
-use mathlib.Core.Path.{◌≡◌, refl, sym, ap, ◌∙◌, subst}
-use Prim.Native.Nat.{ℕ, zero, suc, ◌+◌, ◌-◌, ◌*◌, ◌^◌, ◌≤◌, ◌<◌}
-use native.Mathlib.Nat.{add-zero, mul-one, one-mul, zero-mul, mul-pos, le_refl, zero-lt-suc, lt_irrefl}
+use mathlib.Core.Path.{◌≡◌, refl, sym, ap, ◌∙◌}
+use Prim.Native.Nat.{ℕ, zero, suc, ◌+◌, ◌-◌, ◌*◌, ◌^◌, ◌<◌}
+use native.Mathlib.Nat.{add-zero, mul-one, zero-mul, mul-pos, le_refl, zero-lt-suc, lt_irrefl}
 use native.Mathlib.Omega.{arith}
 use mathlib.Core.Bool.{Bool, true, false, ◌&&◌, ◌||◌, cond, beq, true≢false, or-true}
-use lib.IntN.{ℤ, pos, negsuc}
-use lib.Dec.{T, ltb, eqb, lit<, eqb→eq, eqb-suc-zero, ltb→lt, lt→ltb}
-use lib.Pow.{pow-lt}
+use lib.IntN.{ℤ, pos}
+use lib.Dec.{T, ltb, eqb, lit<, ltb→lt, lt→ltb}
 use borrow.Author.Tests.{ltb-true, ltb-false, eqb-true, eq-eqb, le-ltb, lt-ltb}
-use lib.Ieee.{Float, nan, inf, fin, binary64, up, down, neg, lt, eq, ne, sub, round, fits, low, prec, emax, odd, units, div, is_nan}
+use Rattle.std.specs.Float.{float_with_sign, float_is_finite, is_sign_negative}
+use lib.Ieee.{Float, nan, inf, fin, binary64, up, down, neg, lt, eq, ne, sub, round, low, prec, emax, odd, units, div, is_nan}
 use lib.Ieee.Fits.{up_pos, down_pos, round_is}
 use lib.Ieee.Compare.{nan_differs}
 use lib.Ieee.Exact.{HasValue}
 use lib.Ieee.Positive.{first_pos, positive, above}
 use Rattle.floats.specs.Operators.{decimal, ◌≺◌, ◌⊖◌, ◌⊘◌}
-use Rattle.floats.specs.Values.{magnitude, negative, finite}
+use Rattle.floats.specs.Values.{magnitude, negative, copysign, finite}
 use Rattle.floats.proofs.Tests.{and_left}
 use Rattle.floats.proofs.Rounding.{zero_rounds}
 
@@ -25,49 +25,40 @@ O = decimal 0 1
 abbrev pub I : Float
 I = decimal 1 1
 
--- ---- the three tests of a magnitude
+-- ---- the library's words for the shape of a float
+pub float_with_sign-clear : (x : Float) → float_with_sign false x ≡ magnitude x
+unfolding float_with_sign magnitude
+float_with_sign-clear nan = refl
+float_with_sign-clear (inf s) = refl
+float_with_sign-clear (fin s m e) = refl
+
+signed : (s : Bool) (x : Float) → float_with_sign s x ≡ cond s (neg (magnitude x)) (magnitude x)
+unfolding float_with_sign magnitude neg
+signed true nan = refl
+signed true (inf t) = refl
+signed true (fin t m e) = refl
+signed false x = float_with_sign-clear x
+
+pub float_with_sign-of : (x y : Float) → float_with_sign (is_sign_negative y) x ≡ copysign x y
+unfolding float_with_sign is_sign_negative copysign negative magnitude neg
+float_with_sign-of x nan = float_with_sign-clear x
+float_with_sign-of x (inf s) = signed s x
+float_with_sign-of x (fin s m e) = signed s x
+
+pub copysign-nan : (x y : Float) → is_nan y ≡ true → copysign x y ≡ magnitude x
+unfolding copysign negative is_nan
+copysign-nan x nan h = refl
+copysign-nan x (inf s) h = absurd (true≢false (sym h))
+copysign-nan x (fin s m e) h = absurd (true≢false (sym h))
+
+pub float_is_finite-is : (x : Float) → float_is_finite x ≡ finite x
+unfolding float_is_finite
+float_is_finite-is nan = refl
+float_is_finite-is (inf s) = refl
+float_is_finite-is (fin s m e) = refl
+
 pub below_zero : (a b : ℕ) → ltb a (0 * b) ≡ true → ⊥
 below_zero a b h = let k = ltb-true a (0 * b) h in let z = zero-mul b in omega arith
-
-pub negative_magnitude : (x : Float) → x ≺ O ≡ true → neg x ≡ magnitude x
-unfolding lt neg magnitude round
-negative_magnitude nan h = refl
-negative_magnitude (inf true) h = refl
-negative_magnitude (inf false) h = absurd (true≢false (sym h))
-negative_magnitude (fin true m e) h = refl
-negative_magnitude (fin false m e) h = absurd (below_zero (m * up e * 1) (down e) h)
-
-never_zero : (m u : ℕ) → 0 < u → suc m * u * 1 ≡ 0 → ⊥
-never_zero m u U h = let p : 0 < suc m * u * 1 = mul-pos (mul-pos (zero-lt-suc m) U) (zero-lt-suc 0) in omega arith
-
-power_not_one : (n : ℕ) → 2 ^ suc n ≡ 1 → ⊥
-power_not_one n h = let p : 1 < 2 ^ suc n = pow-lt {i = 0} {j = suc n} (zero-lt-suc n) in omega arith
-
-pub zero_magnitude : (x : Float) → T (fits binary64 x) → eq x O ≡ true → O ≡ magnitude x
-unfolding eq magnitude fits round
-zero_magnitude nan k h = absurd (true≢false (sym h))
-zero_magnitude (inf s) k h = absurd (true≢false (sym h))
-zero_magnitude (fin s zero (pos zero)) k h = refl
-zero_magnitude (fin s zero (pos (suc n))) k h = absurd (power_not_one n (sym (mul-one (2 ^ suc n)) ∙ eqb→eq (2 ^ suc n * 1) 1 k))
-zero_magnitude (fin s zero (negsuc n)) k h = absurd (power_not_one n (sym (one-mul (2 ^ suc n)) ∙ eqb→eq (1 * 2 ^ suc n) 1 k))
-zero_magnitude (fin s (suc m) e) k h =
-    absurd (never_zero m (up e) (up_pos e)
-    (eqb-true (suc m * up e * 1) (0 * down e) (and_left (eqb (suc m * up e * 1) (0 * down e)) (beq s false || eqb (suc m * up e * 1) 0) h)
-    ∙ zero-mul (down e)))
-
-pub other_magnitude : (x : Float) → x ≺ O ≡ false → eq x O ≡ false → x ≡ magnitude x
-unfolding lt eq magnitude round
-other_magnitude nan h k = refl
-other_magnitude (inf true) h k = absurd (true≢false h)
-other_magnitude (inf false) h k = refl
-other_magnitude (fin false m e) h k = refl
-other_magnitude (fin true m e) h k = absurd (go (m * up e * 1) (0 * down e) (ltb-false 0 (m * up e * 1 + 0 * down e) h) k)
-  where
-    both : (a b : ℕ) → a ≡ b → a ≡ 0 → (eqb a b && eqb a 0) ≡ true
-    both a b p q = simp (eq-eqb a b p, eq-eqb a 0 q)
-
-    go : (a b : ℕ) → a + b ≤ 0 → (eqb a b && eqb a 0) ≡ false → ⊥
-    go a b p q = absurd (true≢false (sym (both a b (omega arith) (omega arith)) ∙ q))
 
 -- ---- finite: x - x is 0.0
 zero_of_value : (x : Float) (s : Bool) (c : ℕ) → 0 < c → HasValue x s 0 c → eq x O ≡ true
@@ -136,37 +127,17 @@ not_above_units q k = go (ltb (q * 2 ^ k) (2 ^ (low binary64 + suc (emax binary6
 pub not_above_round : (n d : ℕ) → O ≺ round binary64 true n d ≡ false
 not_above_round n d = rw (round_is binary64 true n d) (not_above_units _ _)
 
--- ---- the sign: x < 0.0, or 1.0 / x < 0.0
 pub below_fin : (m : ℕ) (e : ℤ) → 0 < m → fin true m e ≺ O ≡ true
 unfolding lt round
 below_fin m e h = lt-ltb 0 (m * up e * 1 + 0 * down e) (let a : 0 < m * up e * 1 = mul-pos (mul-pos h (up_pos e)) (lit< tt) in omega arith)
 
-over_zero : (s : Bool) (e : ℤ) → I ⊘ fin s 0 e ≺ O ≡ s
-unfolding lt div round
-over_zero true e = refl
-over_zero false e = refl
-
-over_any : (k : ℕ) (c : ℤ) (m : ℕ) (e : ℤ) → fin false k c ⊘ fin false (suc m) e ≺ O ≡ false
-unfolding div
-over_any k c m e = rw (eqb-suc-zero m) (not_below_round (k * up c * down e) (suc m * up e * down c))
-
-over_more : (m : ℕ) (e : ℤ) → I ⊘ fin false (suc m) e ≺ O ≡ false
-over_more m e = subst (λ (x : Float). x ⊘ fin false (suc m) e ≺ O ≡ false) one_is (over_any 1 (pos 0) m e)
-  where
-    one_is : fin false 1 (pos 0) ≡ I
-    one_is = unfold round in refl
-
-pub negative_is : (x : Float) → (x ≺ O || I ⊘ x ≺ O) ≡ negative x
-unfolding negative
-negative_is nan = unfold lt in unfold div in refl
-negative_is (inf true) = unfold lt in unfold div in unfold round in refl
-negative_is (inf false) = unfold lt in unfold div in unfold round in refl
-negative_is (fin true zero e) = simp (over_zero true e, or-true)
-negative_is (fin true (suc m) e) = simp (below_fin (suc m) e (zero-lt-suc m))
-negative_is (fin false zero e) = simp (not_below_fin 0 e, over_zero false e)
-negative_is (fin false (suc m) e) = simp (not_below_fin (suc m) e, over_more m e)
-
 -- ---- not-a-number: it differs from itself, and is below nothing
+pub nan_of : (x : Float) → is_nan x ≡ true → x ≡ nan
+unfolding is_nan
+nan_of nan h = refl
+nan_of (inf s) h = absurd (true≢false (sym h))
+nan_of (fin s m e) h = absurd (true≢false (sym h))
+
 same_fin : (s : Bool) (m : ℕ) (e : ℤ) → ne (fin s m e) (fin s m e) ≡ false
 unfolding ne eq
 same_fin true m e = simp (eq-eqb (m * up e * down e) (m * up e * down e) refl)
@@ -245,9 +216,9 @@ abbrev pub infinity : Float
 infinity = I ⊘ O
 
 -- none of the four tests passed: finite and above 0
-pub is_positive : (v : Float) → ne v v ≡ false → v ≺ O ≡ false → eq v O ≡ false → eq v infinity ≡ false → T (positive v)
-unfolding lt eq round div
-is_positive nan n l z i = absurd (true≢false (sym nan_differs ∙ n))
+pub is_positive : (v : Float) → is_nan v ≡ false → v ≺ O ≡ false → eq v O ≡ false → eq v infinity ≡ false → T (positive v)
+unfolding is_nan lt eq round div
+is_positive nan n l z i = absurd (true≢false n)
 is_positive (inf false) n l z i = absurd (true≢false i)
 is_positive (inf true) n l z i = absurd (true≢false l)
 is_positive (fin false zero e) n l z i = absurd (true≢false (sym (simp zero-mul) ∙ z))

@@ -3,79 +3,62 @@
 
 ghost use Rattle.std.specs.Prelude.{◌≡◌, T};
 ghost use Rattle.std.specs.Float.Ieee.Positive.{positive};
-ghost use Rattle.floats.specs.Values.{magnitude, minimum, negative, copysign, finite};
+ghost use Rattle.floats.specs.Values.{magnitude, minimum, copysign, finite};
 ghost use Rattle.floats.specs.Digits.{Digits, parts_of};
 
 // Rust's f64::abs.
 pub fn abs(x: f64) -> f64
     ensures { result ≡ magnitude x }
 {
-    if x < 0.0 {
-        -x
-    } else if x == 0.0 {
-        0.0
-    } else {
-        x
-    }
+    x.abs()
 }
 
-// Rust's f64::min: the other operand beside a not-a-number.
+// Rust's f64::min: the other operand beside a not-a-number. It may give either of two equal ones, and here it is the first.
 pub fn min(x: f64, y: f64) -> f64
     ensures { result ≡ minimum x y }
 {
-    if x != x {
-        y
-    } else if y < x {
-        y
-    } else {
-        x
-    }
+    if x.is_nan() || y < x { y } else { x }
 }
 
-// Whether the sign is set, of -0.0 too.
-fn is_negative(x: f64) -> bool
-    ensures { result ≡ negative x }
-{
-    (x < 0.0) | (1.0 / x < 0.0)
-}
-
-// Rust's f64::copysign.
+// Rust's f64::copysign: a not-a-number has no sign here.
 pub fn copysign(x: f64, y: f64) -> f64
     ensures { result ≡ copysign x y }
 {
-    let size = abs(x);
-    if is_negative(y) { -size } else { size }
+    if y.is_nan() { x.abs() } else { x.copysign(y) }
 }
 
 pub fn is_finite(x: f64) -> bool
     ensures { result ≡ finite x }
 {
-    x - x == 0.0
+    x.is_finite()
 }
 
 // The 53 leading binary digits of a float above 0, and how many digits it has in units of 2^-1074.
-#[derive(Drop)]
+#[derive(Clone, Copy)]
 pub struct Parts {
     pub digits: u64,
     pub size: u64,
 }
+
+// One in the exponent's field of a pattern, which stands above 52 digits; the first of the 53 is not written.
+pub const FIELD: u64 = 1 << 52;
 
 // Those of a finite float above 0, from its pattern.
 fn leading_digits(v: f64) -> Parts
     requires { T (positive v) }
     ensures { Digits v result.digits result.size }
 {
-    let b = f64::to_bits(v);
-    let field = b / 4503599627370496;
+    let b = v.to_bits();
+    let field = b / FIELD;
     if field == 0 {
-        let z = u64::leading_zeros(b) as u64;
+        let z = b.leading_zeros() as u64;
         Parts {
             digits: b << (z - 11),
             size: 64 - z,
         }
     } else {
         Parts {
-            digits: b % 4503599627370496 + 4503599627370496,
+            digits: b % FIELD + FIELD,
             size: field + 52,
         }
     }
@@ -85,7 +68,7 @@ fn leading_digits(v: f64) -> Parts
 pub fn taken_apart(v: f64) -> Parts
     ensures { result ≡ parts_of v }
 {
-    if (0.0 < v) & (v < 1.0 / 0.0) {
+    if 0.0 < v && v < f64::INFINITY {
         leading_digits(v)
     } else {
         Parts { digits: 0, size: 0 }

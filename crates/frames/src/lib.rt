@@ -1,179 +1,150 @@
 // Hexadecimal lines: a line's bytes to a frame, an answer to its line.
 #![tactic(auto)]
 
-ghost use Rattle.std.specs.Prelude.{◌≡◌, true, ◌&&◌, ◌+◌, ◌*◌, ◌≤◌, ◌<◌, leb, length, take, drop};
+ghost use Rattle.std.specs.Prelude.{◌≡◌, ◌+◌, ◌*◌, ◌≤◌, ◌<◌, leb, length, take, if◌then◌else◌};
 ghost use Rattle.std.specs.Float.{binary64};
 ghost use Rattle.std.specs.Float.Ieee.{of_bits, to_bits};
-ghost use Rattle.hexlines.specs.Hex.{is_digit, digit_value, all_digits, value, float, digit, answer_line};
+ghost use Rattle.hexlines.specs.Hex.{is_digit, digit_value, all_digits, value, float, digit, digits, answer_line};
 ghost use Rattle.hexlines.specs.Frames.{frame_of};
 
 use hexlines::Frame;
 
-// In lo to hi, ends included.
-fn between(lo: u8, hi: u8, b: u8) -> bool
-    ensures { result ≡ (leb lo b && leb b hi) }
-{
-    lo <= b && b <= hi
-}
+// Bit patterns.
+const SIGN: u64 = 0x8000000000000000;
 
+const INFINITY: u64 = 0x7FF0000000000000;
+
+const NOT_A_NUMBER: u64 = 0x7FF8000000000000;
+
+// A line's length: two digits of kind, and 16 for each float.
+const TWO_FLOATS: usize = 2 + 16 * 2;
+
+const THREE_FLOATS: usize = 2 + 16 * 3;
+
+#[tactic(auto, unfolding(hexlines::specs::Hex::is_digit, hexlines::specs::Hex::between))]
 pub fn is_digit(b: u8) -> bool
     ensures { result ≡ is_digit b }
 {
-    between(b'0', b'9', b) | between(b'A', b'F', b)
+    matches!(b, b'0'..=b'9' | b'A'..=b'F')
 }
 
+#[tactic(auto, unfolding(hexlines::specs::Hex::digit_value, hexlines::specs::Hex::between))]
 pub fn digit_value(b: u8) -> u64
     ensures { result ≡ digit_value b }
 {
-    if between(b'0', b'9', b) {
-        return (b - b'0') as u64;
+    match b {
+        b'0'..=b'9' => u64::from(b - b'0'),
+        b'A'..=b'F' => 10 + u64::from(b - b'A'),
+        _ => 0,
     }
-    if between(b'A', b'F', b) {
-        return 10 + (b - b'A') as u64;
-    }
-    0
 }
 
+#[tactic(auto, unfolding(hexlines::specs::Hex::all_digits))]
 fn all_digits(s: &[u8]) -> bool
     ensures { result ≡ all_digits s.now }
 {
-    let mut i = 0;
-    while i < s.len() {
-        if !is_digit(s[i]) {
-            return false;
-        }
-        i += 1;
-    }
-    true
+    s.iter().all(|b| is_digit(*b))
 }
 
-// The number that the 16 digits from `at` on write.
-fn word(s: &[u8], at: usize) -> u64
-    requires { at + 16 ≤ length s.now }
-    ensures { result ≡ value (take 16 (drop at s.now)) }
+// The number that at most 16 digits write.
+#[tactic(auto, unfolding(hexlines::specs::Hex::value_after), using(hexlines::proofs::Digits::value_more, hexlines::proofs::Digits::value_fits))]
+fn number_of(digits: &[u8]) -> u64
+    requires { length digits.now ≤ 16 }
+    ensures { result ≡ value digits.now }
 {
-    let mut v: u64 = 0;
-    let mut i: usize = 0;
-    while i < 16 {
-        v = 16 * v + digit_value(s[at + i]);
-        i += 1;
+    let mut number: u64 = 0;
+    for b in digits {
+        number = 16 * number + digit_value(*b);
     }
-    v
+    number
+}
+
+// The number that the first 16 digits of a text write; none of a shorter one.
+pub fn word_of(text: &[u8]) -> Option<u64>
+    ensures { result ≡ (if leb 16 (length text.now) then Some (value (take 16 text.now)) else None) }
+{
+    text.get(..16).map(number_of)
 }
 
 // The float of a bit pattern: with the sign off, a pattern above infinity's is a not-a-number's.
+#[tactic(auto, using(hexlines::proofs::Patterns::above_is_nan, hexlines::proofs::Patterns::below_no_nan))]
 pub fn float_of(bits: u64) -> f64
     ensures { result ≡ of_bits binary64 bits }
 {
-    if bits % 0x8000000000000000 > 0x7FF0000000000000 {
-        return 0.0 / 0.0;
+    if bits % SIGN > INFINITY {
+        f64::NAN
+    } else {
+        f64::from_bits(bits)
     }
-    f64::from_bits(bits)
 }
 
 // A float's bit pattern, the same one for every not-a-number.
+#[tactic(auto, using(hexlines::proofs::Patterns::nan_pattern))]
 pub fn bits_of(x: f64) -> u64
     ensures { result ≡ to_bits binary64 x }
 {
-    if x != x {
-        return 0x7FF8000000000000;
+    if x.is_nan() {
+        NOT_A_NUMBER
+    } else {
+        x.to_bits()
     }
-    f64::to_bits(x)
 }
 
 // The float at place i of a line.
-fn float_at(s: &[u8], i: usize) -> f64
-    requires { 2 + 16 * i + 16 ≤ length s.now }
-    ensures { result ≡ float i s.now }
+#[tactic(auto, unfolding(hexlines::specs::Hex::float))]
+fn float_at(line: &[u8], i: usize) -> f64
+    requires { 2 + 16 * i + 16 ≤ length line.now }
+    ensures { result ≡ float i line.now }
 {
-    float_of(word(s, 2 + 16 * i))
-}
-
-fn kind(s: &[u8]) -> u64
-    requires { 2 ≤ length s.now }
-    ensures { result ≡ value (take 2 s.now) }
-{
-    16 * digit_value(s[0]) + digit_value(s[1])
-}
-
-fn two_floats(s: &[u8]) -> Frame
-    requires s_len { length s.now ≡ 34 }
-    requires s_value { all_digits s.now ≡ true }
-    ensures { result ≡ frame_of s.now }
-{
-    let k = kind(s);
-    let x = float_at(s, 0);
-    let y = float_at(s, 1);
-    if k == 0x10 {
-        return Frame::Open { spot: x, rate: y };
-    }
-    if k == 0x20 {
-        return Frame::Read {
-            strike: x,
-            expiry: y,
-        };
-    }
-    Frame::Bad
-}
-
-fn three_floats(s: &[u8]) -> Frame
-    requires s_len { length s.now ≡ 50 }
-    requires s_value { all_digits s.now ≡ true }
-    ensures { result ≡ frame_of s.now }
-{
-    let k = kind(s);
-    let strike = float_at(s, 0);
-    let expiry = float_at(s, 1);
-    let value = float_at(s, 2);
-    if k == 0x11 {
-        return Frame::Call {
-            strike,
-            expiry,
-            price: value,
-        };
-    }
-    if k == 0x12 {
-        return Frame::Put {
-            strike,
-            expiry,
-            price: value,
-        };
-    }
-    if k == 0x13 {
-        return Frame::Vol {
-            strike,
-            expiry,
-            volatility: value,
-        };
-    }
-    Frame::Bad
+    float_of(number_of(&line[2 + 16 * i..][..16]))
 }
 
 // The frame of a line's bytes, its line feed not among them.
-pub fn frame_of(s: &[u8]) -> Frame
-    ensures { result ≡ frame_of s.now }
+#[tactic(auto, unfolding(hexlines::specs::Frames::frame_of, hexlines::specs::Frames::is_frame))]
+pub fn frame_of(line: &[u8]) -> Option<Frame>
+    ensures { result ≡ frame_of line.now }
 {
-    if !all_digits(s) {
-        return Frame::Bad;
+    if line.len() < 2 || !all_digits(line) {
+        return None;
     }
-    let n = s.len();
-    if n == 34 {
-        return two_floats(s);
+    match (number_of(&line[..2]), line.len()) {
+        (0x10, TWO_FLOATS) => Some(Frame::Open {
+            spot: float_at(line, 0),
+            rate: float_at(line, 1),
+        }),
+        (0x11, THREE_FLOATS) => Some(Frame::Call {
+            strike: float_at(line, 0),
+            expiry: float_at(line, 1),
+            price: float_at(line, 2),
+        }),
+        (0x12, THREE_FLOATS) => Some(Frame::Put {
+            strike: float_at(line, 0),
+            expiry: float_at(line, 1),
+            price: float_at(line, 2),
+        }),
+        (0x13, THREE_FLOATS) => Some(Frame::Vol {
+            strike: float_at(line, 0),
+            expiry: float_at(line, 1),
+            volatility: float_at(line, 2),
+        }),
+        (0x20, TWO_FLOATS) => Some(Frame::Read {
+            strike: float_at(line, 0),
+            expiry: float_at(line, 1),
+        }),
+        _ => None,
     }
-    if n == 50 {
-        return three_floats(s);
-    }
-    Frame::Bad
 }
 
+#[tactic(auto, unfolding(hexlines::specs::Hex::digit))]
 fn digit_of(d: u64) -> u8
     requires { d < 16 }
     ensures { result ≡ digit d }
 {
     if d <= 9 {
-        return b'0' + d as u8;
+        b'0' + d as u8
+    } else {
+        b'A' + (d - 10) as u8
     }
-    b'A' + (d - 10) as u8
 }
 
 fn decimal_of(d: u64) -> u8
@@ -183,19 +154,28 @@ fn decimal_of(d: u64) -> u8
     b'0' + d as u8
 }
 
+// The 16 digits of a number.
+#[tactic(auto, unfolding(hexlines::specs::Hex::digits), using(hexlines::proofs::Writing::all_written))]
+pub fn digits_of(n: u64) -> [u8; 16]
+    ensures { result ≡ digits 16 n }
+{
+    let mut digits = [b'0'; 16];
+    let mut rest = n;
+    for i in (0..16).rev() {
+        digits[i] = digit_of(rest % 16);
+        rest /= 16;
+    }
+    digits
+}
+
 // The line of an answer: its number, 0 for done, and its value.
+#[tactic(auto, unfolding(hexlines::specs::Hex::answer_line))]
 pub fn answer_line(n: u64, x: f64) -> [u8; 19]
     ensures { result ≡ answer_line n x }
 {
     let mut line = [b'\n'; 19];
     line[0] = decimal_of(n / 10 % 10);
     line[1] = decimal_of(n % 10);
-    let mut v = bits_of(x);
-    let mut i: usize = 18;
-    while i > 2 {
-        i -= 1;
-        line[i] = digit_of(v % 16);
-        v = v / 16;
-    }
+    line[2..18].copy_from_slice(&digits_of(bits_of(x)));
     line
 }

@@ -1,10 +1,10 @@
 -- Writing a column back, a step at a time. Assumes nothing.
 use Prim.Native.Nat.{ℕ, ◌+◌, ◌*◌, ◌≤◌, ◌<◌}
 use mathlib.Core.Path.{◌≡◌}
-use mathlib.Core.List.{List, ◌++◌}
+use mathlib.Core.List.{List}
 use native.Mathlib.Numerals.{add-one}
-use lib.ListN.{length, take, drop, get_or, set, drop_of_length-le}
-use lib.Seq.{drop-cons, take_at, length-take-le}
+use lib.ListN.{length, drop, get_or, set, drop_of_length-le}
+use lib.Seq.{drop-cons}
 use lib.Ieee.{Float, nan}
 use Rattle.gaps.specs.Gaps.{column, put_column, swept, columns_swept}
 
@@ -16,13 +16,6 @@ put_step g xs j i h = rw (drop-cons xs i nan, add-one)
 pub put_end : (g xs : List Float) (j i : ℕ) → length xs ≤ i → put_column j i (drop i xs) g ≡ g
 unfolding put_column
 put_end g xs j i h = rw (drop_of_length-le xs h)
-
--- a column swept in the front of a longer array
-pub column_put : (g L D R : List Float) (j n : ℕ) → n ≤ length R → length L ≡ n → L ≡ swept (column j (length (take n R)) g)
-    → put_column j 0 (take n (L ++ D)) g ≡ put_column j 0 (swept (column j n g)) g
-column_put g L D R j n h k e =
-    let f : L ≡ swept (column j n g) = (rw (length-take-le n R h) at e) in
-    rw (take_at L D n k, ← f)
 
 pub columns_step : (g₀ g h : List Float) (j n : ℕ) → g ≡ columns_swept j n g₀ → h ≡ put_column j 0 (swept (column j n g)) g → h ≡ columns_swept (j + 1) n g₀
 unfolding columns_swept

@@ -36,5 +36,5 @@ row_filled = five_cells
 
 -- Rows come before columns: under 0.25 and 0.5, gap and 1 fill to 1 and 1.
 pub rows_first : get_or (gaps_filled 2 2 (quarter ∷ half ∷ replicate 62 nan ++ nan ∷ one ∷ [])) (cell_at 1 0) nan ≡ one
-unfolding gaps_filled rows_swept columns_swept partly put_column values backward forward filled is_nan
+unfolding rows_swept columns_swept partly put_column values backward forward filled is_nan
 rows_first = refl

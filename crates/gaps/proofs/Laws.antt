@@ -11,7 +11,7 @@ use lib.Seq.{get_or-drop, get_or-set_same, get_or-set_other}
 use lib.Ieee.{Float, nan, is_nan}
 use borrow.Author.Tests.{ltb-true, ltb-false, eqb-true, eqb-false}
 use Rattle.floats.proofs.Tests.{split}
-use Rattle.limits.specs.Outcome.{unless_refused}
+use Rattle.limits.specs.Outcome.{Outcome, unless_refused}
 use Rattle.grid.specs.Layout.{cell_at, partly}
 use Rattle.grid.proofs.Rows.{part_length}
 use Rattle.grid.proofs.Places.{Place, used, unused, place}
@@ -19,7 +19,6 @@ use Rattle.grid.proofs.Parts.{put_length, put_before, put_here, put_after}
 use Rattle.grid.proofs.Values.{length_values, values_front}
 use Rattle.gaps.specs.Gaps.{swept, rows_swept, column, put_column, columns_swept, gaps_filled, fill_refusal, FillsGaps}
 use Rattle.gaps.specs.Filler.{Takes, SweptAlong, Fills, Filler}
-use Rattle.gaps.specs.declared.Filling.{Filling}
 use Rattle.gaps.proofs.Sweeps.{length_swept, given, takes_own}
 use Rattle.gaps.proofs.Checks.{fits, let_through}
 use Rattle.gaps.proofs.Lines.{line, LineSwept, no_lines, one_line_more}
@@ -119,7 +118,6 @@ module _ (strikes expiries : ℕ) (was : List Float) (narrow : strikes ≤ 64) (
   by_rows = rows_swept_lem strikes narrow was long expiries low
 
   by_columns : SweptAlong down strikes expiries between (gaps_filled strikes expiries was)
-  unfolding gaps_filled
   by_columns = columns_swept_lem expiries low between (rw by_rows.sized long) strikes narrow
 
   -- a cell that has a value after the rows keeps it
@@ -155,7 +153,8 @@ module _ (strikes expiries : ℕ) (was : List Float) (narrow : strikes ≤ 64) (
       record { sized = by_columns.sized ∙ by_rows.sized; elsewhere = elsewhere; known = known; fills = λ a b c. filled_grid }
 
 -- ---- every call
-pub filler : (strikes expiries : ℕ) (was is : List Float) (answer : Filling) → FillsGaps strikes expiries was answer is → Filler strikes expiries was is
+pub filler : (strikes expiries : ℕ) (was is : List Float) (answer : Outcome (Unit {0})) → FillsGaps strikes expiries was answer is
+    → Filler strikes expiries was is
 unfolding unless_refused
 filler strikes expiries was is answer c =
     let n = fill_refusal strikes expiries was in

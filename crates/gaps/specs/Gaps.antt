@@ -1,13 +1,14 @@
 -- Document 01: "The gap filler, callable on any grid of up to 32 × 64 cells where not-a-number is a gap, checks 2 and 15, then does rows, then
 -- columns by the same sweeps, and writes nothing else."
-use Rattle.std.specs.Prelude.{ℕ, zero, suc, ◌≤◌, ◌<◌, ◌≡◌, ◌||◌, List, [], ◌∷◌, ltb, length, get_or, set, Float, if◌then◌else◌}
+use Rattle.std.specs.Prelude.{ℕ, zero, suc, ◌≤◌, ◌<◌, ◌≡◌, ◌||◌, List, [], ◌∷◌, ltb, length, get_or, set, Float, Result, if◌then◌else◌}
 use Rattle.std.specs.Float.{nan}
 use Rattle.std.specs.Float.Ieee.{is_nan}
 use Rattle.limits.specs.Checks.{first, none}
-use Rattle.limits.specs.Outcome.{Outcome, done, refused, answered, unless_refused}
+use Rattle.limits.specs.Outcome.{Outcome, unless_refused}
+unfoldable pub use Rattle.limits.specs.Outcome.{answered}
 use Rattle.grid.specs.Layout.{cell_at, values, partly}
-use Rattle.gaps.specs.declared.Filling.{Filling}
-use Rattle.gaps.specs.declared.Filling.TheVariants.{Done, Refused}
+use Rattle.limits.specs.Refusals.{outcome_with}
+use Rattle.limits.specs.declared.Refusal.{Refusal}
 
 -- A value, or the last one passed where it is a gap.
 unfoldable pub filled : Float → Float → Float
@@ -48,7 +49,7 @@ columns_swept (suc j) expiries grid =
     put_column j 0 (swept (column j expiries before)) before
 
 -- Rows, then columns.
-unfoldable pub gaps_filled : ℕ → ℕ → List Float → List Float
+abbrev pub gaps_filled : ℕ → ℕ → List Float → List Float
 gaps_filled strikes expiries grid = columns_swept strikes expiries (rows_swept expiries strikes grid)
 
 -- 2: more than 64 strikes or 32 expiries. 15: the grid is short.
@@ -65,11 +66,10 @@ pub record Numbered (strikes expiries : ℕ) (grid : List Float) : Type 0 where
   pub short_grid : strikes ≤ 64 → expiries ≤ 32 → length grid < 2048 → fill_refusal strikes expiries grid ≡ 15
 
 -- The answer in document 01's terms: it has no values.
-abbrev pub fill_outcome : Filling → Outcome (Unit {0})
-fill_outcome Done = done tt
-fill_outcome (Refused number) = refused number tt
+abbrev pub fill_outcome : Result (Unit {0}) Refusal → Outcome (Unit {0})
+fill_outcome answer = outcome_with tt answer
 
 -- What a call of `fill_gaps` does, `was` being the grid at entry and `is` at exit.
-pub record FillsGaps (strikes expiries : ℕ) (was : List Float) (answer : Filling) (is : List Float) : Type 0 where
-  pub answers : fill_outcome answer ≡ answered (fill_refusal strikes expiries was) tt tt
+pub record FillsGaps (strikes expiries : ℕ) (was : List Float) (answer : Outcome (Unit {0})) (is : List Float) : Type 0 where
+  pub answers : answer ≡ answered (fill_refusal strikes expiries was) tt tt
   pub grid : is ≡ unless_refused (fill_refusal strikes expiries was) (gaps_filled strikes expiries was) was

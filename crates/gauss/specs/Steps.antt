@@ -1,7 +1,8 @@
 -- What the private steps of crate `normal` promise each other. No meaning of document 01's rests on these.
-use Rattle.std.specs.Prelude.{Bool, ◌&&◌, ℕ, leb, Float, if◌then◌else◌}
+use Rattle.std.specs.Prelude.{Bool, ◌&&◌, ℕ, ◌^◌, leb, Float, if◌then◌else◌}
 use Rattle.std.specs.Float.Ieee.{eq, neg}
-use Rattle.floats.specs.Operators.{decimal, ◌⊖◌, ◌≺◌, ◌≼◌}
+use Rattle.floats.specs.Operators.{decimal, ◌⊖◌, ◌⊗◌, ◌≺◌, ◌≼◌}
+use Rattle.elementary.specs.Exp.{exp}
 
 -- Of a round of the series for erfc, whose term is g: the sum after it is the sum before it.
 abbrev pub unmoved : Float → Float → Float → Bool
@@ -25,3 +26,10 @@ upright v = if v ≺ decimal 0 1 then neg v else v
 
 abbrev pub mirrored : Float → Float → Float
 mirrored v e = if v ≺ decimal 0 1 then decimal 2 1 ⊖ e else e
+
+-- What erfc multiplies the sum by under 2, and what it divides by the fraction from 2 on.
+abbrev pub near_factor : Float → Float
+near_factor v = decimal 11283791670955126 (10 ^ 16) ⊗ exp (neg (v ⊗ v))
+
+abbrev pub far_numerator : Float → Float
+far_numerator v = exp (neg (v ⊗ v)) ⊗ decimal 5641895835477563 (10 ^ 16)

@@ -6,6 +6,7 @@ pub mod Parts
 pub mod Places
 pub mod Ascent
 pub mod Axes
+pub mod Parted
 pub mod Nearest
 pub mod ReadChecks
 pub mod ReadCases

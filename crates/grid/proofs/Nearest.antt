@@ -1,5 +1,5 @@
 -- The strike nearest a spot: how a search that goes along the axis finds it, and what it is. Assumes nothing.
-use Prim.Native.Nat.{ℕ, zero, suc, ◌+◌, ◌-◌, ◌<◌}
+use Prim.Native.Nat.{ℕ, zero, suc, ◌+◌, ◌-◌, ◌≤◌, ◌<◌}
 use mathlib.Core.Path.{◌≡◌, refl, sym, ◌∙◌, subst}
 use mathlib.Core.Bool.{Bool, true, false, not}
 use mathlib.Core.List.{List, [], ◌∷◌}
@@ -50,7 +50,7 @@ module _ (spot : Float) where
     abbrev away : ℕ → Float
     away i = away_from spot (get_or strikes i nan)
 
-    pub lead_start : NearestOf spot strikes 1 0
+    lead_start : NearestOf spot strikes 1 0
     lead_start =
         record {
           within = omega arith;
@@ -58,7 +58,7 @@ module _ (spot : Float) where
           below_farther = λ j h. absurd (omega arith);
         }
 
-    pub lead_keep : (i n : ℕ) → away i ≺ away n ≡ false → NearestOf spot strikes i n → NearestOf spot strikes (i + 1) n
+    lead_keep : (i n : ℕ) → away i ≺ away n ≡ false → NearestOf spot strikes i n → NearestOf spot strikes (i + 1) n
     lead_keep i n f l =
         record {
           within = omega (arith, l.within);
@@ -68,7 +68,7 @@ module _ (spot : Float) where
           below_farther = l.below_farther;
         }
 
-    pub lead_move : (i n : ℕ) → is_axis strikes ≡ true → i < length strikes → away i ≺ away n ≡ true → NearestOf spot strikes i n
+    lead_move : (i n : ℕ) → is_axis strikes ≡ true → i < length strikes → away i ≺ away n ≡ true → NearestOf spot strikes i n
         → NearestOf spot strikes (i + 1) i
     lead_move i n a h t l =
         let farther : (j : ℕ) → j < i → away i ≺ away j ≡ true =
@@ -85,6 +85,45 @@ module _ (spot : Float) where
         number j k =
             differences (get_or strikes i nan) (get_or strikes j nan) spot (axis_finite strikes a i h) (axis_finite strikes a j k)
             (below_some (away i) (away n) t)
+
+    -- ---- the strike that leads when i of them have been passed: before the first round the first one
+    pub record Leads (i : ℕ) (strike : Float) : Type 0 where
+      pub at : ℕ
+      pub is : strike ≡ get_or strikes at nan
+      pub first : i ≡ 0 → at ≡ 0
+      pub leads : 0 < i → NearestOf spot strikes i at
+
+    pub leads_start : Leads 0 (get_or strikes 0 nan)
+    leads_start = record { at = 0; is = refl; first = λ e. refl; leads = λ h. absurd (omega arith) }
+
+    pub leads_keep : (i : ℕ) (strike : Float) → away i ≺ away_from spot strike ≡ false → Leads i strike → Leads (i + 1) strike
+    leads_keep i strike f l =
+        record {
+          at = l.at;
+          is = l.is;
+          first = λ e. absurd (omega arith);
+          leads = λ h. split (eqb i 0)
+              (λ t.
+              let z = eqb-true i 0 t in
+              rw (z, l.first z) lead_start)
+              (λ t. lead_keep i l.at (rw (← l.is) f) (l.leads (let z = eqb-false i 0 t in omega arith)));
+        }
+
+    pub leads_move : (i : ℕ) (strike : Float) → is_axis strikes ≡ true → i < length strikes → away i ≺ away_from spot strike ≡ true → Leads i strike
+        → Leads (i + 1) (get_or strikes i nan)
+    leads_move i strike a h t l =
+        let before : away i ≺ away l.at ≡ true = rw (← l.is) t in
+        record {
+          at = i;
+          is = refl;
+          first = λ e. absurd (omega arith);
+          leads = λ k. split (eqb i 0)
+              (λ u.
+              let z = eqb-true i 0 u in
+              let same : i ≡ l.at = z ∙ sym (l.first z) in
+              clash before (rw (← same) (not_below_itself (away i))))
+              (λ u. lead_move i l.at a h before (l.leads (let z = eqb-false i 0 u in omega arith)));
+        }
 
     -- ---- there is one, and it is the first that none is nearer than
     abbrev leading : Float → Bool
@@ -120,6 +159,15 @@ module _ (spot : Float) where
         let e : length strikes - 1 + 1 ≡ length strikes = omega arith in
         let N = subst (λ (i : ℕ). NearestOf spot strikes i l.0) e l.1 in
         subst (λ (n : ℕ). IsNearest spot strikes n) (nearest_only l.0 N) N
+
+    pub leads_end : (i : ℕ) (strike : Float) → is_axis strikes ≡ true → length strikes ≤ i → i ≤ length strikes → Leads i strike
+        → strike ≡ nearest_strike spot strikes
+    unfolding nearest_strike
+    leads_end i strike a h k l =
+        let some = axis_long strikes a in
+        let e : i ≡ length strikes = omega arith in
+        let N = subst (λ (j : ℕ). NearestOf spot strikes j l.at) e (l.leads (omega arith)) in
+        rw (a, ← nearest_only l.at N) l.is
 
     pub nearest_laws : Nearest spot strikes
     unfolding nearest_strike

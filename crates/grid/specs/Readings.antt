@@ -1,20 +1,21 @@
 -- Document 01: "Reading checks 2, 15, 18, 19, 20 and follows `interpolate`. The at-the-money reading takes the strike at index n/2, rounded down." Since S-2
 -- of document 02 that reading is the middle strike's; at the money is ledger/specs/Money.
 -- `bracket` and the corners v00, v10, v01, v11 are the Rust's.
-use Rattle.std.specs.Prelude.{ℕ, suc, ◌-◌, ◌/◌, ◌≤◌, ◌<◌, ◌≡◌, Bool, true, false, not, ◌&&◌, ◌||◌, List, [], ◌∷◌, ltb, leb, eqb, length, take, get_or, Float, if◌then◌else◌}
+use Rattle.std.specs.Prelude.{ℕ, suc, ◌-◌, ◌/◌, ◌≤◌, ◌<◌, ◌≡◌, Bool, true, false, not, ◌&&◌, ◌||◌}
+use Rattle.std.specs.Prelude.{List, [], ◌∷◌, ltb, leb, eqb, length, take, get_or, Float, Result, if◌then◌else◌}
 use Rattle.std.specs.Float.{nan}
 use Rattle.std.specs.Float.Ieee.{is_nan}
 use Rattle.floats.specs.Operators.{decimal, ◌⊕◌, ◌⊖◌, ◌⊗◌, ◌⊘◌, ◌≺◌, ◌≼◌}
 use Rattle.floats.specs.Values.{magnitude, finite}
 use Rattle.limits.specs.Ranges.{within}
 use Rattle.limits.specs.Checks.{first, none}
-use Rattle.limits.specs.Outcome.{Outcome, done, refused, answered}
+use Rattle.limits.specs.Outcome.{Outcome, answered}
 use Rattle.grid.specs.Layout.{cell_at}
 use Rattle.grid.specs.Search.{first_where}
 use Rattle.grid.specs.declared.Span.{Span}
 use Rattle.grid.specs.declared.Corners.{Corners}
-use Rattle.grid.specs.declared.Reading.{Reading}
-use Rattle.grid.specs.declared.Reading.TheVariants.{Value, Refused}
+use Rattle.limits.specs.Refusals.{outcome_with}
+use Rattle.limits.specs.declared.Refusal.{Refusal}
 
 -- 18: an axis has values, and they are finite and strictly ascending.
 unfoldable pub ascends : Float → List Float → Bool
@@ -97,9 +98,8 @@ pub record Middle (a b c d : Float) : Type 0 where
   pub of_4 : middle_strike (a ∷ b ∷ c ∷ d ∷ []) 4 ≡ c
 
 -- The answer in document 01's terms.
-abbrev pub read_outcome : Reading → Outcome Float
-read_outcome (Value volatility) = done volatility
-read_outcome (Refused number) = refused number (decimal 0 1)
+abbrev pub read_outcome : Result Float Refusal → Outcome Float
+read_outcome answer = outcome_with (decimal 0 1) answer
 
 -- What a bracket comes to, x being inside the axis: its lower value is not above x; its upper one is the next, and above x, or there is no next one.
 pub data UpperEnd (axis : List Float) (x : Float) (s : Span) : Type 0 where

@@ -6,10 +6,11 @@ ghost use Rattle.std.specs.Prelude.{◌≡◌};
 ghost use Rattle.std.specs.Float.{nan};
 
 // Not-a-number: a gap.
+#[tactic(auto, unfolding(limits::proofs::Float::of_bits))]
 pub fn nan() -> f64
     ensures { result ≡ nan }
 {
-    0.0 / 0.0
+    f64::NAN
 }
 
 // What `bracket` returns: two axis values by index, and how far between them.
@@ -27,10 +28,4 @@ pub struct Corners {
     pub v10: f64,
     pub v01: f64,
     pub v11: f64,
-}
-
-#[derive(Clone, Copy)]
-pub enum Reading {
-    Value { volatility: f64 },
-    Refused { number: u64 },
 }

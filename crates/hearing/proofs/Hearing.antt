@@ -1,19 +1,18 @@
 -- What the book's and the grid's contracts make of a frame. Assumes nothing.
-use mathlib.Core.Path.{◌≡◌, sym, ap, ◌∙◌}
-use Prim.Native.Nat.{ℕ}
+use Rattle.std.specs.Prelude.{Result, Ok, Err}
+use mathlib.Core.Path.{◌≡◌, refl, ap, ◌∙◌}
 use lib.Ieee.{Float}
 use Rattle.floats.specs.Operators.{decimal}
-use Rattle.limits.specs.Outcome.{Outcome, done, refused}
+use Rattle.limits.specs.Outcome.{Outcome}
+use Rattle.limits.specs.Refusals.{outcome_with}
+use Rattle.limits.specs.declared.Refusal.{Refusal}
 use Rattle.brent.specs.declared.Solution.{Solution}
 use Rattle.blackscholes.specs.Implied.{outcome_of_implied}
-use Rattle.grid.specs.Readings.{reading, read_outcome}
-use Rattle.grid.specs.declared.Reading.{Reading}
-use Rattle.chart.specs.Build.{outcome}
-use Rattle.chart.specs.declared.Built.{Built}
+use Rattle.chart.specs.declared.Lengths.{Lengths}
 use Rattle.ledger.specs.Model.{bsm}
 use Rattle.ledger.specs.Book.{Columns}
 use Rattle.ledger.specs.Calls.{Offers}
-use Rattle.ledger.specs.Build.{Buffers, build_outcome, buffers_after, BuildsBook}
+use Rattle.ledger.specs.Build.{Buffers, BuildsBook}
 use Rattle.ledger.specs.Claim.{Ledger, hear}
 use Rattle.ledger.specs.declared.Heard.{Heard}
 use Rattle.ledger.specs.declared.Offer.{Offer}
@@ -33,21 +32,16 @@ offered l o h c r f s =
 abbrev itself : Float → Float
 itself x = x
 
-module _ (l : Ledger) (strike expiry : Float) (built : Built) (s : Buffers) (f : BuildsBook l.book l.columns blank built s) where
-  pub built_and_read : (m n : ℕ) (x : Reading) (r : Said) → built ≡ Built.Surface m n →
-      read_outcome x ≡ reading s.strikes s.expiries s.grid m n strike expiry →
-      ((k : Columns) → heard_of r k ≡ said (ledger l.book k) (λ y. y) (read_outcome x)) → heard_of r l.columns ≡ reads l strike expiry
-  unfolding reads read_of
-  built_and_read m n x r b e h =
-      let o : build_outcome l.book l.columns blank ≡ done (record { strikes = m; expiries = n }) = sym f.answers ∙ ap outcome b in
-      h l.columns
-      ∙ ap (said l itself)
-      (e ∙ ap (λ (z : Buffers). read_of z strike expiry (done (record { strikes = m; expiries = n }))) f.buffers
-      ∙ sym (ap (read_of (buffers_after l.book l.columns blank) strike expiry) o))
+-- An answer that is a float, as it is heard.
+said_itself : (b : _) (c : Columns) (answer : Result Float Refusal)
+    → heard_of (record { book = b; answer = answer }) c ≡ said (ledger b c) itself (outcome_with (decimal 0 1) answer)
+unfolding said
+said_itself b c (Ok x) = refl
+said_itself b c (Err why) = refl
 
-  pub not_built : (number : ℕ) → built ≡ Built.Refused number →
-      heard_of (record { book = l.book; number = number; value = decimal 0 1 }) l.columns ≡ reads l strike expiry
-  unfolding reads read_of said
-  not_built number b =
-      let o : build_outcome l.book l.columns blank ≡ refused number (record { strikes = 0; expiries = 0 }) = sym f.answers ∙ ap outcome b in
-      sym (ap (λ (z : Outcome _). said l itself (read_of (buffers_after l.book l.columns blank) strike expiry z)) o)
+-- What the build answered, and what was read of it.
+pub reads_built : (l : Ledger) (strike expiry : Float) (built : Outcome Lengths) (s : Buffers) (answer : Result Float Refusal)
+    → BuildsBook l.book l.columns blank built s → outcome_with (decimal 0 1) answer ≡ read_of s strike expiry built
+    → heard_of (record { book = l.book; answer = answer }) l.columns ≡ reads l strike expiry
+unfolding reads
+reads_built l strike expiry built s answer f e = said_itself l.book l.columns answer ∙ ap (said l itself) (e ∙ rw (f.answers, f.buffers))

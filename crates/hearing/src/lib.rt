@@ -1,120 +1,83 @@
-// One frame heard by the quote book: what it asks for, and what the book answers.
+// One line heard by the quote book: what its frame asks for, and what the book answers.
 #![tactic(auto)]
 
 ghost use Rattle.std.specs.Prelude.{◌≡◌};
 ghost use Rattle.brent.specs.declared.Solution.{Solution};
 ghost use Rattle.blackscholes.specs.Implied.{outcome_of_implied};
-ghost use Rattle.grid.specs.Readings.{read_outcome};
-ghost use Rattle.ledger.specs.Book.{Columns, columns_of};
+ghost use Rattle.ledger.specs.Book.{Columns};
+ghost use Rattle.book.specs.Lent.{columns_held, SameColumns};
 ghost use Rattle.ledger.specs.Claim.{Ledger};
 ghost use Rattle.ledger.specs.Model.{priced};
-ghost use Rattle.protocol.specs.Hear.{ledger, said, opens, reads, asked_by, answers, heard_of};
+ghost use Rattle.protocol.specs.Hear.{ledger, said, opens, reads, asked_by, hears, heard_of};
 
-use blackscholes::{Implied, OptionType};
-use chart::Built;
-use grid::Reading;
+use admission::SurfaceBuffers;
+use blackscholes::OptionType;
+use book::QuoteColumns;
 use hexlines::Frame;
-use ledger::{Book, Heard, Offer, Opened, Terms};
+use ledger::{Book, Heard, Offer, Opening, Terms};
+use limits::Refusal;
 use protocol::{Asked, Said};
+use readings::Surface;
 
-fn open_book(spot: f64, rate: f64) -> Said
-    ensures { (l : Ledger) → heard_of result l.columns ≡ opens l (record { spot = spot; rate = rate }) }
+#[tactic(auto, unfolding(protocol::specs::Hear::said, protocol::specs::Hear::opens, limits::proofs::Float::of_bits, limits::proofs::Float::round))]
+fn open_book(opening: Opening) -> Said
+    ensures { (l : Ledger) → heard_of result l.columns ≡ opens l opening }
 {
-    let opened = book::open(spot, rate);
-    match opened {
-        Opened::Fresh { book } => Said {
+    match book::open(opening) {
+        Ok(book) => Said {
             book,
-            number: 0,
-            value: 0.0,
+            answer: Ok(0.0),
         },
-        Opened::Refused { number, book } => Said {
-            book,
-            number,
-            value: 0.0,
+        Err(unopened) => Said {
+            book: unopened.book,
+            answer: Err(unopened.refusal),
         },
     }
 }
 
 // What the book made of an offer.
+#[tactic(auto, unfolding(protocol::specs::Hear::said, brent::specs::Outcome::outcome_of_implied))]
 fn offered(heard: Heard) -> Said
     ensures { (c : Columns) → heard_of result c ≡ said (ledger heard.book c) (λ (x : Solution). x.volatility) (outcome_of_implied heard.answer) }
 {
-    let book = heard.book;
-    let answer = heard.answer;
-    match answer {
-        Implied::Found { solution } => Said {
-            book,
-            number: 0,
-            value: solution.volatility,
-        },
-        Implied::Refused {
-            number,
-            evaluations: _,
-        } => Said {
-            book,
-            number,
-            value: 0.0,
-        },
-    }
-}
-
-fn reading_said(book: Book, reading: Reading) -> Said
-    ensures { (c : Columns) → heard_of result c ≡ said (ledger book c) (λ x. x) (read_outcome reading) }
-{
-    match reading {
-        Reading::Value { volatility } => Said {
-            book,
-            number: 0,
-            value: volatility,
-        },
-        Reading::Refused { number } => Said {
-            book,
-            number,
-            value: 0.0,
-        },
+    Said {
+        book: heard.book,
+        answer: heard
+            .answer
+            .map(|solution| solution.volatility)
+            .map_err(|unsolved| unsolved.refusal),
     }
 }
 
 // Builds from nothing, and reads what was built.
 fn read_surface(
     book: Book,
+    columns: &QuoteColumns<'_>,
     strike: f64,
     expiry: f64,
-    strikes: &[f64],
-    expiries: &[f64],
-    volatilities: &[f64],
-) -> Said
-    ensures { heard_of result (columns_of strikes.now expiries.now volatilities.now)
-        ≡ reads (ledger book (columns_of strikes.now expiries.now volatilities.now)) strike expiry }
+) -> Result<f64, Refusal>
+    ensures { heard_of (record { book = book; answer = result }) (columns_held columns.now)
+        ≡ reads (ledger book (columns_held columns.now)) strike expiry }
 {
     let mut strike_axis = [0.0f64; 64];
     let mut expiry_axis = [0.0f64; 32];
     let mut grid = [0.0f64; 2048];
     let mut counts = [0u64; 2048];
-    let built = book::build(
-        book,
-        strikes,
-        expiries,
-        volatilities,
-        &mut strike_axis,
-        &mut expiry_axis,
-        &mut grid,
-        &mut counts,
-    );
-    match built {
-        Built::Surface {
-            strikes: m,
-            expiries: n,
-        } => reading_said(
-            book,
-            readings::interpolate(&strike_axis, &expiry_axis, &grid, m, n, strike, expiry),
-        ),
-        Built::Refused { number } => Said {
-            book,
-            number,
-            value: 0.0,
-        },
-    }
+    let mut buffers = SurfaceBuffers {
+        strike_axis: &mut strike_axis,
+        expiry_axis: &mut expiry_axis,
+        grid: &mut grid,
+        counts: &mut counts,
+    };
+    let lengths = book::build(book, columns, &mut buffers)?;
+    let surface = Surface {
+        strike_axis: &strike_axis,
+        expiry_axis: &expiry_axis,
+        grid: &grid,
+        strikes: lengths.strikes,
+        expiries: lengths.expiries,
+    };
+    surface.interpolate(strike, expiry)
 }
 
 // An offer of any kind is one thing asked.
@@ -134,11 +97,14 @@ fn priced(kind: OptionType, strike: f64, expiry: f64, price: f64) -> Asked
 }
 
 // What a frame asks for.
-pub fn asked_by(frame: Frame) -> Asked
+#[tactic(auto, unfolding(protocol::specs::Hear::asked_by))]
+fn asked_by(frame: Frame) -> Asked
     ensures { result ≡ asked_by frame }
 {
     match frame {
-        Frame::Open { spot, rate } => Asked::Open { spot, rate },
+        Frame::Open { spot, rate } => Asked::Open {
+            opening: Opening { spot, rate },
+        },
         Frame::Call {
             strike,
             expiry,
@@ -161,38 +127,27 @@ pub fn asked_by(frame: Frame) -> Asked
             },
         },
         Frame::Read { strike, expiry } => Asked::Read { strike, expiry },
-        Frame::Bad => Asked::Nothing,
     }
 }
 
 // What the book answers. Only an offer that is kept writes to the columns.
-pub fn hear(
-    book: Book,
-    asked: Asked,
-    strikes: &mut [f64],
-    expiries: &mut [f64],
-    volatilities: &mut [f64],
-) -> Said
-    ensures { heard_of result (columns_of strikes.new expiries.new volatilities.new)
-        ≡ answers (ledger book (columns_of strikes.old expiries.old volatilities.old)) asked }
+#[tactic(auto, unfolding(protocol::specs::Hear::hears, protocol::specs::Hear::answers))]
+pub fn hear(book: Book, frame: Option<Frame>, columns: &mut QuoteColumns<'_>) -> Said
+    ensures same_memory { SameColumns columns.new columns.old }
+    ensures hears { heard_of result (columns_held columns.new) ≡ hears (ledger book (columns_held columns.old)) frame }
 {
-    match asked {
-        Asked::Open { spot, rate } => open_book(spot, rate),
-        Asked::Quote { offer } => {
-            offered(book::offer(book, offer, strikes, expiries, volatilities))
-        }
-        Asked::Read { strike, expiry } => read_surface(
+    let Some(frame) = frame else {
+        return Said {
             book,
-            strike,
-            expiry,
-            &strikes[..],
-            &expiries[..],
-            &volatilities[..],
-        ),
-        Asked::Nothing => Said {
+            answer: Err(Refusal::Malformed),
+        };
+    };
+    match asked_by(frame) {
+        Asked::Open { opening } => open_book(opening),
+        Asked::Quote { offer } => offered(book::offer(book, offer, columns)),
+        Asked::Read { strike, expiry } => Said {
             book,
-            number: 21,
-            value: 0.0,
+            answer: read_surface(book, columns, strike, expiry),
         },
     }
 }

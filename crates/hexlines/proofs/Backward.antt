@@ -1,4 +1,6 @@
 -- What is written is what is read: digits, numbers, floats, frames, answers. Assumes nothing.
+use Rattle.std.specs.Prelude.{Some}
+use Rattle.std.proofs.lemmas.List.Folds.{list_all-append}
 use mathlib.Core.Path.{◌≡◌, refl, sym, ap, ◌∙◌}
 use mathlib.Core.Bool.{Bool, true, false, cond, ◌&&◌, and-true}
 use mathlib.Core.List.{List, [], ◌∷◌, ◌++◌}
@@ -13,13 +15,12 @@ use lib.Seq.{take_at, drop_at, drop-drop, drop-append-add}
 use lib.Ieee.{Float, nan, binary64, fits, of_bits, to_bits}
 use lib.Ieee.Bits.{of_bits-to_bits, to_bits-lt}
 use Rattle.floats.proofs.Tests.{by, holds, and_left, and_right}
-use Rattle.hexlines.specs.Hex.{between, is_digit, digit_value, all_digits, value_after, value, float, digit, digits, decimals, answer_line}
+use Rattle.hexlines.specs.Hex.{between, is_digit, digit_value, all_digits, value_after, value, float, digit, digits, answer_line}
 use Rattle.hexlines.specs.Frames.{is_frame, frame_of, floats_of, words, line_of, encode}
 use Rattle.hexlines.specs.Claims.{all_fit}
 use Rattle.hexlines.specs.declared.Frame.{Frame}
-use Rattle.hexlines.specs.declared.Frame.TheVariants.{Open, Call, Put, Vol, Read, Bad}
+use Rattle.hexlines.specs.declared.Frame.TheVariants.{Open, Call, Put, Vol, Read}
 use Rattle.hexlines.proofs.Digits.{above, below}
-use Rattle.hexlines.proofs.Parts.{wrong_length}
 
 -- ---- a digit
 
@@ -86,9 +87,7 @@ digits_all (suc k) v = rw ((digit_read (v / 16 ^ k % 16) (mod-lt (v / 16 ^ k) (l
 
 all_append : (xs ys : List ℕ) → all_digits xs ≡ true → all_digits (xs ++ ys) ≡ all_digits ys
 unfolding all_digits
-all_append [] ys e = refl
-all_append (x ∷ xs) ys e =
-    rw (and_left (is_digit x) (all_digits xs) e) (all_append xs ys (and_right (is_digit x) (all_digits xs) e))
+all_append xs ys e = rw (list_all-append, e)
 
 -- The digits of a float's bits are read as that float.
 float_written : (x : Float) → fits binary64 x ≡ true → of_bits binary64 (value (digits 16 (to_bits binary64 x))) ≡ x
@@ -142,7 +141,7 @@ float_is i kind xs d h e =
     ∙ ap (λ (l : List ℕ). of_bits binary64 (value l)) (word_at i xs d h)
     ∙ float_written (get_or xs i d) (fit_at i xs d h e)
 
-pub frame_read : (f : Frame) → all_fit (floats_of f) ≡ true → frame_of (encode f) ≡ f
+pub frame_read : (f : Frame) → all_fit (floats_of f) ≡ true → frame_of (encode f) ≡ Some f
 unfolding encode floats_of frame_of
 frame_read (Open x y) e = simp (frame_is, float_is 0 0x10 (x ∷ y ∷ []) nan (lit< tt) e, float_is 1 0x10 (x ∷ y ∷ []) nan (lit< tt) e)
 frame_read (Call x y z) e =
@@ -155,16 +154,15 @@ frame_read (Vol x y z) e =
     let l = x ∷ y ∷ z ∷ [] in
     simp (frame_is, float_is 0 0x13 l nan (lit< tt) e, float_is 1 0x13 l nan (lit< tt) e, float_is 2 0x13 l nan (lit< tt) e)
 frame_read (Read x y) e = simp (frame_is, float_is 0 0x20 (x ∷ y ∷ []) nan (lit< tt) e, float_is 1 0x20 (x ∷ y ∷ []) nan (lit< tt) e)
-frame_read Bad e = wrong_length [] (λ z. omega arith) (λ z. omega arith)
 
 -- ---- answers
 
 pub value_read : (n : ℕ) (x : Float) → fits binary64 x ≡ true → float 0 (answer_line n x) ≡ x
-unfolding float answer_line decimals
+unfolding float answer_line
 value_read n x e =
     let ds = digits 16 (to_bits binary64 x) in
     ap (λ (l : List ℕ). of_bits binary64 (value l)) (take_at ds (10 ∷ []) 16 (digits_length 16 (to_bits binary64 x))) ∙ float_written x e
 
 pub number_read : (n : ℕ) (x : Float) → n < 100 → 10 * (get_or (answer_line n x) 0 0 - 48) + (get_or (answer_line n x) 1 0 - 48) ≡ n
-unfolding answer_line decimals
+unfolding answer_line
 number_read n x h = omega arith

@@ -1,4 +1,5 @@
 -- The claims of specs/Claims.antt. Assumes nothing.
+use Rattle.std.specs.Prelude.{Option}
 use Rattle.hexlines.specs.Claims.{Streamed, Split, Returns}
 use Rattle.hexlines.specs.Session.{Told}
 use Rattle.hexlines.specs.declared.Frame.{Frame}
@@ -8,7 +9,7 @@ use Rattle.hexlines.proofs.Split.{fed_lines, last_unfed, no_feeds_lem, nothing_l
 use Rattle.hexlines.proofs.Backward.{digit_read, digit_upper, frame_read, value_read, number_read}
 use Rattle.hexlines.proofs.Unique.{one_line}
 
-pub streamed : {B : Type 0} (hear : B → Frame → Told B) → Streamed hear
+pub streamed : {B : Type 0} (hear : B → Option Frame → Told B) → Streamed hear
 streamed hear = record { chunks = any_chunks hear; sizes = output_size hear; room = output_room hear }
 
 pub split : Split

@@ -1,29 +1,22 @@
 -- The lines that bytes end, and the line that is held, as counts. Assumes nothing.
+use Rattle.std.specs.Prelude.{◌==◌, count_by}
+use Rattle.std.proofs.lemmas.List.Recursion.{is_sum_by}
 use mathlib.Core.Path.{◌≡◌, refl, ap}
 use mathlib.Core.List.{List, [], ◌∷◌}
-use Prim.Native.Nat.{ℕ, suc, ◌+◌, ◌≤◌, ◌<◌}
-use native.Mathlib.Numerals.{add-one}
+use Prim.Native.Nat.{ℕ}
 use native.Mathlib.Omega.{arith}
 use borrow.Author.Tests.{eqb-true, eqb-false}
 use lib.Dec.{eqb}
-use lib.ListN.{length, take, drop, get_or, length-take, drop_of_length-le}
-use lib.Seq.{drop-cons}
+use lib.ListN.{length, take, length-take}
 use Rattle.floats.proofs.Tests.{split}
 use Rattle.hexlines.specs.Lines.{cap, unended, held, feed_in, feeds}
 use Rattle.hexlines.specs.declared.Line.{Line}
 
--- ---- the lines that bytes end, counted in a loop
+-- ---- the lines that bytes end, counted
 
-pub counted_on : (bytes : List ℕ) (n i k : ℕ) → i < length bytes → n + feeds (drop i bytes) ≡ feeds bytes → n ≤ i → (k ≡ feed_in (get_or bytes i 0)) × (k ≤ 1) →
-    (n + k + feeds (drop (i + 1) bytes) ≡ feeds bytes) × (n + k ≤ i + 1)
-unfolding feeds
-counted_on bytes n i k h e few f =
-    let m : n + (feed_in (get_or bytes i 0) + feeds (drop (suc i) bytes)) ≡ feeds bytes = rw (drop-cons bytes i 0 h) at e in
-    (rw (add-one i) (omega (arith, f.0, m)), omega (arith, f.1))
-
-pub counted_end : (bytes : List ℕ) (n i : ℕ) → length bytes ≤ i → n + feeds (drop i bytes) ≡ feeds bytes → n ≡ feeds bytes
-unfolding feeds
-counted_end bytes n i h e = omega (arith, rw (drop_of_length-le bytes h) at e)
+pub feeds_counted : (bytes : List ℕ) → feeds bytes ≡ count_by (λ b. b == 10) bytes
+unfolding feeds feed_in
+feeds_counted bytes = is_sum_by feeds feed_in refl (λ c cs. refl) bytes
 
 -- ---- the part of a line that is held
 

@@ -1,20 +1,21 @@
 -- Laws of digits and of the numbers that they write, for the functions' proofs. Assumes nothing.
-use mathlib.Core.Path.{◌≡◌}
-use mathlib.Core.Bool.{Bool, true, false, cond}
-use mathlib.Core.List.{List, [], ◌∷◌}
+use mathlib.Core.Path.{◌≡◌, refl, sym, ap, ◌∙◌}
+use mathlib.Core.Bool.{Bool, true, cond}
+use mathlib.Core.List.{List, [], ◌∷◌, ◌++◌}
 use Prim.Native.Nat.{ℕ, suc, ◌+◌, ◌-◌, ◌*◌, ◌^◌, ◌<◌, ◌≤◌}
 use Prim.Native.Char.{Char, code}
 use native.Mathlib.Numerals.{add-one}
-use native.Mathlib.Nat.{pow-suc, pow-le-pow_right, lt_of_lt_of_le, zero-add, not-suc-le-zero, le_of_suc-le-suc}
+use native.Mathlib.Nat.{pow-succ', pow-le-pow_right, lt_of_lt_of_le, mul-one, add-zero}
 use native.Mathlib.Omega.{arith}
+use lib.Arith.{digits_lt}
 use lib.Dec.{leb, lit<}
 use borrow.Author.Tests.{leb-true}
-use lib.ListN.{length, get_or, take, drop, drop_of_length-le}
-use lib.Seq.{drop-cons}
+use lib.ListN.{length, get_or, take, length-take}
+use lib.Seq.{take-suc}
 use mir.Val.{Fits}
 use mir.Syntax.{w64}
 use Rattle.floats.proofs.Tests.{by, and_left, and_right}
-use Rattle.hexlines.specs.Hex.{between, is_digit, digit_value, all_digits, value_after, value}
+use Rattle.hexlines.specs.Hex.{between, digit_value, value_after, value}
 
 pub above : (lo hi : Char) (c : ℕ) → between lo hi c ≡ true → code lo ≤ c
 unfolding between
@@ -31,42 +32,39 @@ digit_small c =
     (λ t. omega (arith, below "0" "9" c t))
     (λ s. by (λ (n : ℕ). n < 16) (λ (t : Bool). cond t (10 + (c - 65)) 0) (between "A" "F" c) (λ t. omega (arith, below "A" "F" c t)) (λ t. lit< tt))
 
--- ---- the test of all bytes, one by one
+-- ---- numbers
 
-pub all_step : (s : List ℕ) (i : ℕ) → i < length s → is_digit (get_or s i 0) ≡ true → all_digits (drop (i + 1) s) ≡ all_digits (drop i s)
-unfolding all_digits
-all_step s i h e = rw (add-one, drop-cons s i 0 h, e)
+regroup : (u d p w : ℕ) → (16 * u + d) * p + w ≡ u * (16 * p) + ((16 * 0 + d) * p + w)
+regroup u d p w = omega arith
 
-pub all_stop : (s : List ℕ) (i : ℕ) → i < length s → is_digit (get_or s i 0) ≡ false → all_digits (drop i s) ≡ false
-unfolding all_digits
-all_stop s i h e = rw (drop-cons s i 0 h, e)
-
-pub all_end : (s : List ℕ) (i : ℕ) → length s ≤ i → all_digits (drop i s) ≡ true
-unfolding all_digits
-all_end s i h = rw (drop_of_length-le s h)
-
--- ---- the number of 16 digits, one by one: v stands for the first i
-
-pub value_next : (s : List ℕ) (at i v : ℕ) → i < 16 → at + i < length s →
-    value_after (16 * v + digit_value (get_or s (at + i) 0)) (take (16 - (i + 1)) (drop (at + (i + 1)) s)) ≡ value_after v (take (16 - i) (drop (at + i) s))
+pub value_parts : (u : ℕ) (cs : List ℕ) → value_after u cs ≡ u * 16 ^ length cs + value cs
 unfolding value_after
-value_next s at i v h k =
-    let e : 16 - i ≡ suc (16 - (i + 1)) = omega arith in
-    let f : at + (i + 1) ≡ suc (at + i) = omega arith in
-    rw (f, e, drop-cons s (at + i) 0 k)
+value_parts u [] = rw (mul-one, add-zero)
+value_parts u (c ∷ cs) =
+    value_parts (16 * u + digit_value c) cs
+    ∙ regroup u (digit_value c) (16 ^ length cs) (value cs)
+    ∙ ap (λ (z : ℕ). u * z + ((16 * 0 + digit_value c) * 16 ^ length cs + value cs)) (sym (pow-succ' 16 (length cs)))
+    ∙ ap (λ (z : ℕ). u * 16 ^ suc (length cs) + z) (sym (value_parts (16 * 0 + digit_value c) cs))
 
-pub value_done : (l : List ℕ) (i v : ℕ) → 16 ≤ i → value_after v (take (16 - i) l) ≡ v
+pub value_below : (cs : List ℕ) → value cs < 16 ^ length cs
 unfolding value_after
-value_done l i v h = let e : 16 - i ≡ 0 = omega arith in rw e
+value_below [] = lit< tt
+value_below (c ∷ cs) =
+    let d : 16 * 0 + digit_value c < 16 = omega (arith, digit_small c) in
+    rw (value_parts (16 * 0 + digit_value c) cs, pow-succ') (digits_lt d (value_below cs))
 
-pub value_small : (i v d : ℕ) → v < 16 ^ i → d < 16 → 16 * v + d < 16 ^ (i + 1)
-value_small i v d h k = rw (add-one, pow-suc) (omega arith)
+-- ---- the number of digits, one by one
 
-pub value_fits : (i x : ℕ) → i ≤ 16 → x < 16 ^ i → Fits w64 x
-value_fits i x h k = record { fits = lt_of_lt_of_le k (pow-le-pow_right (lit< tt) h) }
-
-pub value_of_two : (s : List ℕ) → 2 ≤ length s → value (take 2 s) ≡ 16 * digit_value (get_or s 0 0) + digit_value (get_or s 1 0)
+value_append : (u : ℕ) (cs : List ℕ) (c : ℕ) → value_after u (cs ++ c ∷ []) ≡ 16 * value_after u cs + digit_value c
 unfolding value_after
-value_of_two [] h = absurd (not-suc-le-zero h)
-value_of_two (x ∷ []) h = absurd (not-suc-le-zero (le_of_suc-le-suc h))
-value_of_two (x ∷ y ∷ r) h = rw zero-add
+value_append u [] c = refl
+value_append u (x ∷ cs) c = value_append (16 * u + digit_value x) cs c
+
+pub value_more : (s : List ℕ) (i : ℕ) → i < length s → value (take (i + 1) s) ≡ 16 * value (take i s) + digit_value (get_or s i 0)
+value_more s i h = rw (add-one, take-suc s i 0 h) (value_append 0 (take i s) (get_or s i 0))
+
+-- Of at most 16 digits it fits 64 bits.
+pub value_fits : (s : List ℕ) (i : ℕ) → i < length s → length s ≤ 16 → Fits w64 (16 * value (take i s) + digit_value (get_or s i 0))
+value_fits s i h k =
+    let few : length (take (i + 1) s) ≤ 16 = rw length-take (omega arith) in
+    rw (← value_more s i h) (record { fits = lt_of_lt_of_le (value_below (take (i + 1) s)) (pow-le-pow_right (lit< tt) few) })

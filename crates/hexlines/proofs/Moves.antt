@@ -1,4 +1,5 @@
 -- The moves of a program over any book, as laws on sessions: a line, a chunk, the end of the input. Assumes nothing.
+use Rattle.std.specs.Prelude.{Option}
 use mathlib.Core.Path.{◌≡◌, refl, sym, ap, ◌∙◌}
 use mathlib.Core.List.{List, ◌++◌}
 use Prim.Native.Nat.{ℕ, ◌+◌, ◌-◌, ◌*◌, ◌<◌, ◌≤◌}
@@ -21,7 +22,7 @@ drop_more a b m n h e =
     let k : m + (n - m) ≡ n = omega arith in
     ap (λ (z : ℕ). drop z a) (sym k) ∙ sym (drop-drop (n - m) m a) ∙ ap (drop (n - m)) e ∙ drop-drop (n - m) m b ∙ ap (λ (z : ℕ). drop z b) k
 
-module _ {B : Type 0} (hear : B → Frame → Told B) where
+module _ {B : Type 0} (hear : B → Option Frame → Told B) where
   abbrev at : B → List ℕ → List ℕ → Session B
   at b p t = record { book = b; part = p; text = t }
 

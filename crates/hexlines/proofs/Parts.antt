@@ -1,6 +1,7 @@
 -- What is held of a line decides its frame. Assumes nothing.
+use Rattle.std.specs.Prelude.{None}
 use mathlib.Core.Path.{◌≡◌, refl, sym, ap, ◌∙◌}
-use mathlib.Core.Bool.{Bool, false, cond, and-false}
+use mathlib.Core.Bool.{Bool, cond}
 use mathlib.Core.List.{List, [], ◌∷◌, ◌++◌}
 use Prim.Native.Nat.{ℕ, zero, suc, ◌+◌, ◌<◌, ◌≤◌}
 use native.Mathlib.Numerals.{add-one}
@@ -10,28 +11,18 @@ use borrow.Author.Tests.{ne_eqb, leb-true, leb-false, ltb-true, ltb-false}
 use lib.ListN.{length, take, set, length-append, length-take}
 use lib.Seq.{take-suc-set, take_all, take_at}
 use Rattle.floats.proofs.Tests.{by}
-use Rattle.hexlines.specs.Hex.{all_digits}
 use Rattle.hexlines.specs.Frames.{is_frame, frame_of}
 use Rattle.hexlines.specs.Lines.{cap, held, pushed}
-use Rattle.hexlines.specs.declared.Frame.TheVariants.{Bad}
 use Rattle.hexlines.specs.declared.Line.{Line}
 
-pub wrong_length : (l : List ℕ) → (length l ≡ 34 → ⊥) → (length l ≡ 50 → ⊥) → frame_of l ≡ Bad
+wrong_length : (l : List ℕ) → (length l ≡ 34 → ⊥) → (length l ≡ 50 → ⊥) → frame_of l ≡ None
 unfolding frame_of is_frame
 wrong_length l h k = simp (ne_eqb (length l) 34 h, ne_eqb (length l) 50 k)
 
-no_frame : (l : List ℕ) (kind n : ℕ) → all_digits l ≡ false → is_frame kind n l ≡ false
-unfolding is_frame
-no_frame l kind n e = simp (e, and-false)
-
-pub wrong_character : (l : List ℕ) → all_digits l ≡ false → frame_of l ≡ Bad
-unfolding frame_of
-wrong_character l e = simp (no_frame l 0x10 2 e, no_frame l 0x11 3 e, no_frame l 0x12 3 e, no_frame l 0x13 3 e, no_frame l 0x20 2 e)
-
-pub too_long : (l : List ℕ) → 50 < length l → frame_of l ≡ Bad
+too_long : (l : List ℕ) → 50 < length l → frame_of l ≡ None
 too_long l h = wrong_length l (λ e. omega arith) (λ e. omega arith)
 
-pub over_full : (l : List ℕ) (n : ℕ) → length l ≡ 51 → 50 < n → frame_of (take n l) ≡ Bad
+pub over_full : (l : List ℕ) (n : ℕ) → length l ≡ 51 → 50 < n → frame_of (take n l) ≡ None
 over_full l n e h = rw (take_all n l (omega arith)) (too_long l (omega arith))
 
 -- The frame of a line is that of its first 51 bytes.

@@ -1,4 +1,5 @@
 -- How many lines an input has, and how long the answers are. Assumes nothing.
+use Rattle.std.specs.Prelude.{Option}
 use mathlib.Core.Path.{◌≡◌, refl, ap, ◌∙◌}
 use mathlib.Core.Bool.{Bool, cond}
 use mathlib.Core.List.{List, [], ◌∷◌, ◌++◌, map}
@@ -8,14 +9,14 @@ use lib.Dec.{eqb}
 use lib.ListN.{length, length-append, length-map}
 use lib.Ieee.{Float}
 use Rattle.floats.proofs.Tests.{by}
-use Rattle.hexlines.specs.Hex.{answer_line, decimals, digits}
+use Rattle.hexlines.specs.Hex.{answer_line, digits}
 use Rattle.hexlines.specs.Frames.{frame_of}
 use Rattle.hexlines.specs.Lines.{unended, lines_after, lines}
 use Rattle.hexlines.specs.Session.{Told, answers, output}
 use Rattle.hexlines.specs.declared.Frame.{Frame}
 
 pub answer_size : (n : ℕ) (x : Float) → length (answer_line n x) ≡ 19
-unfolding answer_line decimals digits
+unfolding answer_line digits
 answer_size n x = refl
 
 -- Each line has a byte of its own, its line feed if no other.
@@ -28,8 +29,8 @@ lines_room p (c ∷ bs) =
     (λ _. omega (arith, lines_room [] bs))
     (λ _. omega (arith, simp length-append at (lines_room (p ++ c ∷ []) bs)))
 
-module _ {B : Type 0} (hear : B → Frame → Told B) where
-  answers_size : (b : B) (fs : List Frame) → length (answers hear b fs) ≡ 19 * length fs
+module _ {B : Type 0} (hear : B → Option Frame → Told B) where
+  answers_size : (b : B) (fs : List (Option Frame)) → length (answers hear b fs) ≡ 19 * length fs
   unfolding answers
   answers_size b [] = refl
   answers_size b (f ∷ fs) =

@@ -1,5 +1,6 @@
 -- However a stream is cut into chunks, what is written is the answers to the frames of its lines, and the book is the one that heard them all.
 -- Assumes nothing.
+use Rattle.std.specs.Prelude.{Option}
 use mathlib.Core.Path.{◌≡◌, refl, sym, ap, ◌∙◌}
 use mathlib.Core.Bool.{Bool, cond}
 use mathlib.Core.List.{List, [], ◌∷◌, ◌++◌, map, append_assoc, append-nil}
@@ -16,12 +17,12 @@ use Rattle.hexlines.specs.Session.{Told, Session, answers, book_after, output, b
 use Rattle.hexlines.specs.declared.Frame.{Frame}
 use Rattle.hexlines.proofs.Parts.{frame_of_part, take_of_part}
 
-module _ {B : Type 0} (hear : B → Frame → Told B) where
+module _ {B : Type 0} (hear : B → Option Frame → Told B) where
   abbrev at : B → List ℕ → List ℕ → Session B
   at b p t = record { book = b; part = p; text = t }
 
   -- The session after the frames fs, from book b and text t: no part of a line is left.
-  abbrev after : B → List ℕ → List Frame → Session B
+  abbrev after : B → List ℕ → List (Option Frame) → Session B
   after b t fs = at (book_after hear b fs) [] (t ++ answers hear b fs)
 
   last_part : (b : B) (p t : List ℕ) → finish hear (at b (take cap p) t) ≡ after b t (map frame_of (unended p))

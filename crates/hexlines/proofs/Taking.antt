@@ -1,4 +1,5 @@
 -- Bytes taken a line at a time: byte by byte, as the loop does, and what a line more leaves of a session. Assumes nothing.
+use Rattle.std.specs.Prelude.{Option}
 use mathlib.Core.Path.{◌≡◌, sym, ap, ◌∙◌}
 use mathlib.Core.List.{List, [], ◌∷◌, ◌++◌}
 use Prim.Native.Nat.{ℕ, suc, ◌+◌, ◌≤◌, ◌<◌}
@@ -67,7 +68,7 @@ feeds_through (c ∷ cs) h =
     let g : 0 < feeds cs = omega (arith, rw t at h) in
     rw t (omega (arith, feeds_through cs g)))
 
-module _ {B : Type 0} (hear : B → Frame → Told B) where
+module _ {B : Type 0} (hear : B → Option Frame → Told B) where
   abbrev holding : Session B → Line → Session B
   holding s l = record { book = s.book; part = held l; text = s.text }
 

@@ -1,12 +1,14 @@
 -- A good line is its frame's own line: its digits are those of the numbers that they write. Assumes nothing.
-use mathlib.Core.Path.{◌≡◌, refl, sym, ap, ◌∙◌}
+use Rattle.std.specs.Prelude.{Option, Some, None}
+use Rattle.std.specs.List.{list_all}
+use Rattle.std.proofs.lemmas.List.Folds.{list_all-append}
+use mathlib.Core.Path.{◌≡◌, refl, sym, subst, ap, ◌∙◌}
 use mathlib.Core.Bool.{Bool, true, false, not, cond, ◌&&◌}
 use mathlib.Core.List.{List, [], ◌∷◌, ◌++◌}
 use Prim.Native.Nat.{ℕ, zero, suc, ◌+◌, ◌*◌, ◌/◌, ◌%◌, ◌^◌, ◌<◌, ◌≤◌}
-use native.Mathlib.Nat.{pow-succ', mul-one, add-zero}
 use native.Mathlib.Omega.{arith}
-use lib.Arith.{digits_lt, digits_div}
-use lib.Dec.{eqb, lit<}
+use lib.Arith.{digits_div}
+use lib.Dec.{eqb}
 use borrow.Author.Tests.{eqb-true, not-true}
 use lib.ListN.{length, take, drop, length-drop, take-append-drop, drop_of_length-le}
 use lib.Seq.{length-take-le, drop-drop}
@@ -17,30 +19,11 @@ use Rattle.hexlines.specs.Hex.{is_digit, digit_value, all_digits, value_after, v
 use Rattle.hexlines.specs.Frames.{is_frame, frame_of, floats_of, words, line_of, encode}
 use Rattle.hexlines.specs.Claims.{no_nan}
 use Rattle.hexlines.specs.declared.Frame.{Frame}
-use Rattle.hexlines.specs.declared.Frame.TheVariants.{Open, Call, Put, Vol, Read, Bad}
-use Rattle.hexlines.proofs.Digits.{digit_small}
+use Rattle.hexlines.specs.declared.Frame.TheVariants.{Open, Call, Put, Vol, Read}
+use Rattle.hexlines.proofs.Digits.{digit_small, value_parts, value_below}
 use Rattle.hexlines.proofs.Backward.{digit_upper}
 
 -- ---- numbers
-
-regroup : (u d p w : ℕ) → (16 * u + d) * p + w ≡ u * (16 * p) + ((16 * 0 + d) * p + w)
-regroup u d p w = omega arith
-
-value_parts : (u : ℕ) (cs : List ℕ) → value_after u cs ≡ u * 16 ^ length cs + value cs
-unfolding value_after
-value_parts u [] = rw (mul-one, add-zero)
-value_parts u (c ∷ cs) =
-    value_parts (16 * u + digit_value c) cs
-    ∙ regroup u (digit_value c) (16 ^ length cs) (value cs)
-    ∙ ap (λ (z : ℕ). u * z + ((16 * 0 + digit_value c) * 16 ^ length cs + value cs)) (sym (pow-succ' 16 (length cs)))
-    ∙ ap (λ (z : ℕ). u * 16 ^ suc (length cs) + z) (sym (value_parts (16 * 0 + digit_value c) cs))
-
-value_below : (cs : List ℕ) → value cs < 16 ^ length cs
-unfolding value_after
-value_below [] = lit< tt
-value_below (c ∷ cs) =
-    let d : 16 * 0 + digit_value c < 16 = omega (arith, digit_small c) in
-    rw (value_parts (16 * 0 + digit_value c) cs, pow-succ') (digits_lt d (value_below cs))
 
 -- A number's digits are those that it was read from.
 digits_back : (u : ℕ) (cs : List ℕ) → all_digits cs ≡ true → digits (length cs) (value_after u cs) ≡ cs
@@ -58,22 +41,15 @@ digits_back u (c ∷ cs) e =
 
 -- ---- parts of a line
 
-all_left : (xs ys : List ℕ) → all_digits (xs ++ ys) ≡ true → all_digits xs ≡ true
+all_parts : (n : ℕ) (l : List ℕ) → (all_digits (take n l) && all_digits (drop n l)) ≡ all_digits l
 unfolding all_digits
-all_left [] ys e = refl
-all_left (x ∷ xs) ys e =
-    rw (and_left (is_digit x) (all_digits (xs ++ ys)) e) (all_left xs ys (and_right (is_digit x) (all_digits (xs ++ ys)) e))
-
-all_right : (xs ys : List ℕ) → all_digits (xs ++ ys) ≡ true → all_digits ys ≡ true
-unfolding all_digits
-all_right [] ys e = e
-all_right (x ∷ xs) ys e = all_right xs ys (and_right (is_digit x) (all_digits (xs ++ ys)) e)
+all_parts n l = sym (list_all-append is_digit (take n l) (drop n l)) ∙ ap (list_all is_digit) (take-append-drop n l)
 
 all_take : (n : ℕ) (l : List ℕ) → all_digits l ≡ true → all_digits (take n l) ≡ true
-all_take n l e = all_left (take n l) (drop n l) (ap all_digits (take-append-drop n l) ∙ e)
+all_take n l e = and_left (all_digits (take n l)) (all_digits (drop n l)) (all_parts n l ∙ e)
 
 all_drop : (n : ℕ) (l : List ℕ) → all_digits l ≡ true → all_digits (drop n l) ≡ true
-all_drop n l e = all_right (take n l) (drop n l) (ap all_digits (take-append-drop n l) ∙ e)
+all_drop n l e = and_right (all_digits (take n l)) (all_digits (drop n l)) (all_parts n l ∙ e)
 
 -- n digits from m on are those of their number.
 part_back : (n m : ℕ) (l : List ℕ) → all_digits l ≡ true → m + n ≤ length l → digits n (value (take n (drop m l))) ≡ take n (drop m l)
@@ -130,19 +106,22 @@ line_back kind n l t f =
     ∙ ap (λ (z : List ℕ). take 2 l ++ z) (words_back n 0 l e (omega arith) f)
     ∙ take-append-drop 2 l
 
-pub one_line : (l : List ℕ) → (frame_of l ≡ Bad → ⊥) → no_nan (floats_of (frame_of l)) ≡ true → encode (frame_of l) ≡ l
+own : (l : List ℕ) (g f : Frame) → (no_nan (floats_of g) ≡ true → encode g ≡ l) → Some g ≡ Some f → no_nan (floats_of f) ≡ true → encode f ≡ l
+own l g f back e = let k : g ≡ f = cc in subst (λ (h : Frame). no_nan (floats_of h) ≡ true → encode h ≡ l) k back
+
+pub one_line : (l : List ℕ) (f : Frame) → frame_of l ≡ Some f → no_nan (floats_of f) ≡ true → encode f ≡ l
 unfolding frame_of encode floats_of
 one_line l =
-    let Own : Frame → Type 0 = λ f. (f ≡ Bad → ⊥) → no_nan (floats_of f) ≡ true → encode f ≡ l in
+    let Own : Option Frame → Type 0 = λ o. (f : Frame) → o ≡ Some f → no_nan (floats_of f) ≡ true → encode f ≡ l in
     let x = float 0 l in
     let y = float 1 l in
     let z = float 2 l in
-    let read : Bool → Frame = λ t. cond t (Read x y) Bad in
-    let vol : Bool → Frame = λ t. cond t (Vol x y z) (read (is_frame 0x20 2 l)) in
-    let put : Bool → Frame = λ t. cond t (Put x y z) (vol (is_frame 0x13 3 l)) in
-    let call : Bool → Frame = λ t. cond t (Call x y z) (put (is_frame 0x12 3 l)) in
-    by Own (λ (t : Bool). cond t (Open x y) (call (is_frame 0x11 3 l))) (is_frame 0x10 2 l) (λ t b f. line_back 0x10 2 l t f)
-    (λ _. by Own call (is_frame 0x11 3 l) (λ t b f. line_back 0x11 3 l t f)
-    (λ _. by Own put (is_frame 0x12 3 l) (λ t b f. line_back 0x12 3 l t f)
-    (λ _. by Own vol (is_frame 0x13 3 l) (λ t b f. line_back 0x13 3 l t f)
-    (λ _. by Own read (is_frame 0x20 2 l) (λ t b f. line_back 0x20 2 l t f) (λ _ b f. absurd (b refl))))))
+    let read : Bool → Option Frame = λ t. cond t (Some (Read x y)) None in
+    let vol : Bool → Option Frame = λ t. cond t (Some (Vol x y z)) (read (is_frame 0x20 2 l)) in
+    let put : Bool → Option Frame = λ t. cond t (Some (Put x y z)) (vol (is_frame 0x13 3 l)) in
+    let call : Bool → Option Frame = λ t. cond t (Some (Call x y z)) (put (is_frame 0x12 3 l)) in
+    by Own (λ (t : Bool). cond t (Some (Open x y)) (call (is_frame 0x11 3 l))) (is_frame 0x10 2 l) (λ t f. own l (Open x y) f (line_back 0x10 2 l t))
+    (λ _. by Own call (is_frame 0x11 3 l) (λ t f. own l (Call x y z) f (line_back 0x11 3 l t))
+    (λ _. by Own put (is_frame 0x12 3 l) (λ t f. own l (Put x y z) f (line_back 0x12 3 l t))
+    (λ _. by Own vol (is_frame 0x13 3 l) (λ t f. own l (Vol x y z) f (line_back 0x13 3 l t))
+    (λ _. by Own read (is_frame 0x20 2 l) (λ t f. own l (Read x y) f (line_back 0x20 2 l t)) (λ _ f e _. cc)))))

@@ -1,5 +1,6 @@
 -- What is proved of these definitions beside the contracts of the code (proofs/Claims.antt).
-use Rattle.std.specs.Prelude.{◌≡◌, ◌⊎◌, Bool, true, not, ◌&&◌, List, [], ◌∷◌, ◌++◌, ℕ, ◌+◌, ◌-◌, ◌*◌, ◌≤◌, ◌<◌, length, get_or, Float}
+use Rattle.std.specs.Prelude.{◌≡◌, ◌⊎◌, Bool, true, not, List, [], ◌∷◌, ◌++◌, ℕ, ◌+◌, ◌-◌, ◌*◌, ◌≤◌, ◌<◌, length, get_or, Float, Option, Some}
+use Rattle.std.specs.List.{list_all}
 use Prim.Native.Char.{code}
 use Rattle.std.specs.Float.{binary64}
 use Rattle.std.specs.Float.Ieee.{fits, is_nan}
@@ -8,10 +9,9 @@ use Rattle.hexlines.specs.Frames.{frame_of, encode, floats_of}
 use Rattle.hexlines.specs.Lines.{lines, no_feed, no_feeds, fed}
 use Rattle.hexlines.specs.Session.{Told, output, book_left, run, joined}
 use Rattle.hexlines.specs.declared.Frame.{Frame}
-use Rattle.hexlines.specs.declared.Frame.TheVariants.{Bad}
 
 -- Of the program, over any book.
-pub record Streamed {B : Type 0} (hear : B → Frame → Told B) : Type 0 where
+pub record Streamed {B : Type 0} (hear : B → Option Frame → Told B) : Type 0 where
   -- However the input is cut into chunks, what is written is the answers to the frames of its lines. The book left is the one that heard them all,
   -- and nothing of a line is left over.
   pub chunks : (b : B) (cs : List (List ℕ)) →
@@ -31,20 +31,18 @@ pub record Split : Type 0 where
   pub nothing_lost : (input : List ℕ) → (fed (lines input) ≡ input) ⊎ (fed (lines input) ≡ input ++ code "\n" ∷ [])
 
 unfoldable pub all_fit : List Float → Bool
-all_fit [] = true
-all_fit (x ∷ xs) = fits binary64 x && all_fit xs
+all_fit xs = list_all (fits binary64) xs
 
 unfoldable pub no_nan : List Float → Bool
-no_nan [] = true
-no_nan (x ∷ xs) = not (is_nan x) && no_nan xs
+no_nan xs = list_all (λ x. not (is_nan x)) xs
 
 -- Of digits, frames and answers: what is written is what is read. (Every f64 fits binary64.)
 pub record Returns : Type 0 where
   pub digits : (d : ℕ) → d < 16 → (is_digit (digit d) ≡ true) × (digit_value (digit d) ≡ d)
   pub upper : (c : ℕ) → is_digit c ≡ true → digit (digit_value c) ≡ c
-  pub frames : (f : Frame) → all_fit (floats_of f) ≡ true → frame_of (encode f) ≡ f
+  pub frames : (f : Frame) → all_fit (floats_of f) ≡ true → frame_of (encode f) ≡ Some f
   -- no other line says a frame, but for the many patterns of a not-a-number
-  pub one_line : (line : List ℕ) → (frame_of line ≡ Bad → ⊥) → no_nan (floats_of (frame_of line)) ≡ true → encode (frame_of line) ≡ line
+  pub one_line : (line : List ℕ) (f : Frame) → frame_of line ≡ Some f → no_nan (floats_of f) ≡ true → encode f ≡ line
   pub values : (n : ℕ) (x : Float) → fits binary64 x ≡ true → float 0 (answer_line n x) ≡ x
   pub numbers : (n : ℕ) (x : Float) → n < 100 →
       10 * (get_or (answer_line n x) 0 0 - code "0") + (get_or (answer_line n x) 1 0 - code "0") ≡ n

@@ -1,5 +1,6 @@
 -- Document 01, 'Hexadecimal lines': the digits, the numbers and floats that they write, and the line of an answer. A line is a list of bytes.
-use Rattle.std.specs.Prelude.{Bool, true, ◌&&◌, ◌||◌, List, [], ◌∷◌, ◌++◌, ℕ, zero, suc, ◌+◌, ◌-◌, ◌*◌, ◌/◌, ◌%◌, ◌^◌, leb, take, drop, Float, if◌then◌else◌}
+use Rattle.std.specs.List.{list_all}
+use Rattle.std.specs.Prelude.{Bool, ◌&&◌, ◌||◌, List, [], ◌∷◌, ◌++◌, ℕ, zero, suc, ◌+◌, ◌-◌, ◌*◌, ◌/◌, ◌%◌, ◌^◌, leb, take, drop, Float, if◌then◌else◌}
 use Prim.Native.Char.{Char, code}
 use Rattle.std.specs.Float.{binary64}
 use Rattle.std.specs.Float.Ieee.{of_bits, to_bits}
@@ -17,8 +18,7 @@ unfoldable pub digit_value : ℕ → ℕ
 digit_value c = if between "0" "9" c then c - code "0" else (if between "A" "F" c then 10 + (c - code "A") else 0)
 
 unfoldable pub all_digits : List ℕ → Bool
-all_digits [] = true
-all_digits (c ∷ cs) = is_digit c && all_digits cs
+all_digits cs = list_all is_digit cs
 
 -- The number that v and then the digits of a list write, the most significant first.
 unfoldable pub value_after : ℕ → List ℕ → ℕ
@@ -42,7 +42,7 @@ digits zero v = []
 digits (suc k) v = digit (v / 16 ^ k % 16) ∷ digits k v
 
 -- The last two decimal digits of n.
-unfoldable pub decimals : ℕ → List ℕ
+abbrev pub decimals : ℕ → List ℕ
 decimals n = (code "0" + n / 10 % 10) ∷ (code "0" + n % 10) ∷ []
 
 -- "Each line gets one line, ended by a line feed: two decimal digits of answer (00 for done) and 16 upper-case hexadecimal ones of value".

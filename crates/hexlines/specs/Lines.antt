@@ -1,5 +1,6 @@
 -- Document 01, 'Hexadecimal lines': "The program reads one frame a line (a line feed ends it; the last may lack one)".
-use Rattle.std.specs.Prelude.{Bool, true, not, ◌&&◌, List, [], ◌∷◌, ◌++◌, ℕ, suc, ◌+◌, eqb, ltb, take, drop, set, replicate, if◌then◌else◌}
+use Rattle.std.specs.Prelude.{Bool, not, List, [], ◌∷◌, ◌++◌, ℕ, suc, ◌+◌, eqb, ltb, take, drop, set, replicate, if◌then◌else◌}
+use Rattle.std.specs.List.{list_all}
 use Prim.Native.Char.{code}
 use Rattle.hexlines.specs.declared.Line.{Line}
 use Rattle.hexlines.specs.declared.Taken.{Taken}
@@ -20,12 +21,10 @@ lines input = lines_after [] input
 -- ---- the way back, which no code takes: lines, each ended by a line feed. `Claims` has lines (fed ls) ≡ ls.
 
 unfoldable pub no_feed : List ℕ → Bool
-no_feed [] = true
-no_feed (c ∷ cs) = not (eqb c (code "\n")) && no_feed cs
+no_feed cs = list_all (λ c. not (eqb c (code "\n"))) cs
 
 unfoldable pub no_feeds : List (List ℕ) → Bool
-no_feeds [] = true
-no_feeds (l ∷ ls) = no_feed l && no_feeds ls
+no_feeds ls = list_all no_feed ls
 
 unfoldable pub fed : List (List ℕ) → List ℕ
 fed [] = []

@@ -2,8 +2,8 @@
 // calls of one line, `streams` those of a stream.
 #![tactic(auto)]
 
-// What a line says.
-#[derive(Drop)]
+// What a line says. Of a line that check 21 refuses there is none.
+#[derive(Clone, Copy)]
 pub enum Frame {
     Open {
         spot: f64,
@@ -28,11 +28,10 @@ pub enum Frame {
         strike: f64,
         expiry: f64,
     },
-    // refused with 21
-    Bad,
 }
 
 // The part of a line that came so far: its first 51 bytes, and how many they are. A line that fills them is too long for a frame.
+// A buffer with its length beside it, as nothing is on the heap. No invariant ties the two: the calls answer whatever they are.
 #[derive(Clone, Copy)]
 pub struct Line {
     pub bytes: [u8; 51],

@@ -1,8 +1,8 @@
 -- The calls on lent memory: the number and what is written stand for the very answer of the call below. Assumes nothing.
-use Rattle.std.specs.Prelude.{if◌then◌else◌}
-use mathlib.Core.Path.{◌≡◌, refl, sym, ap, ◌∙◌, subst}
+use Rattle.std.specs.Prelude.{Result, Ok, Err, if◌then◌else◌}
+use mathlib.Core.Path.{◌≡◌, refl, sym, ap, ◌∙◌}
 use mathlib.Core.Bool.{Bool, true, false, not}
-use mathlib.Core.List.{List}
+use mathlib.Core.List.{List, [], ◌∷◌}
 use Prim.Native.Nat.{ℕ}
 use native.Mathlib.Omega.{arith}
 use lib.Dec.{eqb}
@@ -10,49 +10,57 @@ use lib.Ieee.{Float}
 use borrow.Author.Tests.{ne_eqb, eqb-true}
 use Rattle.limits.specs.Ranges.{is_spot, is_rate}
 use Rattle.limits.specs.Checks.{first, none}
-use Rattle.limits.specs.Outcome.{Outcome, number_of, answered}
+use Rattle.limits.specs.Outcome.{Outcome, number_of}
+use Rattle.limits.specs.Refusals.{number, number_in}
+use Rattle.limits.specs.declared.Refusal.{Refusal}
+use Rattle.ledger.specs.declared.Unopened.{Unopened}
+use Rattle.limits.proofs.Refusals.{some}
 use Rattle.limits.proofs.Answers.{number_answered}
-use Rattle.gaps.specs.Gaps.{fill_outcome, fill_refusal, FillsGaps}
-use Rattle.gaps.specs.declared.Filling.{Filling}
-use Rattle.chart.specs.declared.Built.{Built}
 use Rattle.chart.specs.Quotes.{Quote, Columns}
-use Rattle.chart.specs.Cells.{axes}
-use Rattle.chart.specs.Build.{Buffers, Lengths, no_lengths, lengths, outcome, Builds}
-use Rattle.ledger.specs.Model.{Opening, bsm}
+use Rattle.chart.specs.Build.{Buffers, buffers_of, outcome, Builds}
+use Rattle.chart.specs.declared.Lengths.{Lengths}
+use Rattle.ledger.specs.Model.{bsm}
+use Rattle.ledger.specs.declared.Opening.{Opening}
 use Rattle.ledger.specs.declared.Offer.{Offer}
-use Rattle.ledger.specs.Book.{opening_of, zero_book, open_refusal, is_short}
+use Rattle.ledger.specs.declared.Book.{Book}
+use Rattle.ledger.specs.Book.{columns_of, opening_of, zero_book, open_refusal, is_short}
 use Rattle.ledger.specs.Build.{build_outcome}
 use Rattle.ledger.specs.Claim.{tallied, surface_refusal}
-use Rattle.trays.specs.Tray.{Lent, shut, heard, reply_of, last_ledger, tray_reply, QuotesTray}
-use Rattle.ledger.specs.declared.Book.{Book}
+use Rattle.trays.specs.Tray.{Answers, Lent, lent, shut, heard, reply_of, last_ledger, tray_reply, QuotesTray}
 use Rattle.trays.specs.declared.Tray.{Tray}
-use Rattle.host.specs.Calls.{filling_in, built_in, lengths_of, BuildsFor, is_opening, book_in, tray_in, book_of, totals_of, built_of, QuotesFor}
-use Rattle.host.proofs.Told.{Numbered, numbered_answer}
-
--- ---- the gap filler
-filling_back : (a : Filling) → Numbered (fill_outcome a) → filling_in (number_of (fill_outcome a)) ≡ a
-unfolding filling_in
-filling_back Filling.Done h = refl
-filling_back (Filling.Refused number) h = simp (ne_eqb number none h)
-
-pub fills : (strikes expiries : ℕ) (was : List Float) (a : Filling) (is : List Float) (n : ℕ) → FillsGaps strikes expiries was a is
-    → n ≡ number_of (fill_outcome a) → FillsGaps strikes expiries was (filling_in n) is
-fills strikes expiries was a is n h e =
-    let k = subst Numbered (sym h.answers) (numbered_answer (fill_refusal strikes expiries was) tt tt) in
-    subst (λ (x : Filling). FillsGaps strikes expiries was x is) (sym (filling_back a k) ∙ ap filling_in (sym e)) h
+use Rattle.admission.specs.declared.SurfaceBuffers.{SurfaceBuffers}
+use Rattle.admission.specs.Lent.{buffers_in}
+use Rattle.book.specs.declared.QuoteColumns.{QuoteColumns}
+use Rattle.book.specs.Lent.{columns_held}
+use Rattle.host.specs.Calls.{built_in, lengths_of, BuildsFor, is_opening, book_in, tray_in, book_of, totals_of, built_of, QuotesFor}
 
 -- ---- a build
-built_back : (a : Built) → Numbered (outcome a) → built_in (number_of (outcome a)) (lengths_of a) ≡ a
+built_back : (a : Result Lengths Refusal) → built_in (number_in a) (lengths_of (outcome a)) ≡ outcome a
 unfolding built_in lengths_of
-built_back (Built.Surface strikes expiries) h = refl
-built_back (Built.Refused number) h = simp (ne_eqb number none h)
+built_back (Ok n) = refl
+built_back (Err refusal) = simp (ne_eqb (number refusal) none (some refusal))
 
-pub builds : (c : Columns) (kept : ℕ) (s : Buffers) (a : Built) (s' : Buffers) (n : ℕ) (w : List ℕ) → Builds c kept s a s' → n ≡ number_of (outcome a)
-    → w ≡ lengths_of a → BuildsFor c kept s n w s'
-builds c kept s a s' n w h p q =
-    let k = subst Numbered (sym h.answers) (numbered_answer _ no_lengths _) in
-    let b : built_in n w ≡ a = rw (p, q) (built_back a k) in
-    record { builds = rw b h; written = rw (b, q) }
+-- ---- what a host reads of the memory that it lent, once the struct of it is given back
+pub record ColumnsBack (c : QuoteColumns) (k t v : List Float) : Type 0 where
+  pub strikes : k ≡ c.strikes.now
+  pub expiries : t ≡ c.expiries.now
+  pub volatilities : v ≡ c.volatilities.now
+
+pub record BuffersBack (b : SurfaceBuffers) (k t g : List Float) (n : List ℕ) : Type 0 where
+  pub strike_axis : k ≡ b.strike_axis.now
+  pub expiry_axis : t ≡ b.expiry_axis.now
+  pub grid : g ≡ b.grid.now
+  pub counts : n ≡ b.counts.now
+
+pub builds : (c : Columns) (kept : ℕ) (s : Buffers) (a : Result Lengths Refusal) (b : SurfaceBuffers) (number : ℕ) (w : List ℕ)
+    (k t g : List Float) (n : List ℕ) → Builds c kept s (outcome a) (buffers_in b) → number ≡ number_in a → w ≡ lengths_of (outcome a)
+    → BuffersBack b k t g n → BuildsFor c kept s number w (buffers_of k t g n)
+builds c kept s a b number w k t g n h p q e =
+    rw (p, q, e.strike_axis, e.expiry_axis, e.grid, e.counts) (record { builds = rw (built_back a) h; written = rw (built_back a) })
+
+number_back : (a : Result Lengths Refusal) → number_of (outcome a) ≡ number_in a
+number_back (Ok n) = refl
+number_back (Err refusal) = refl
 
 -- ---- a tray: 6 and 9 are the opening's numbers, and no build's
 opening_number : (o : Opening) → eqb (open_refusal o) none ≡ false → is_opening (open_refusal o) ≡ true
@@ -71,12 +79,9 @@ unfolding first
 next true number rest h k = h
 next false number rest h k = k
 
-build_number : (qs : List Quote) (s : Buffers) (short : Bool)
-    → is_opening (number_of (answered (surface_refusal qs s short) no_lengths (lengths (axes qs)))) ≡ false
+build_number : (qs : List Quote) (s : Buffers) (short : Bool) → is_opening (surface_refusal qs s short) ≡ false
 unfolding surface_refusal
-build_number qs s short =
-    rw (number_answered (surface_refusal qs s short) no_lengths (lengths (axes qs)))
-    (next short 1 _ refl (next _ 15 _ refl (next _ 16 _ refl (next _ 17 none refl refl))))
+build_number qs s short = next short 1 _ refl (next _ 15 _ refl (next _ 16 _ refl (next _ 17 none refl refl)))
 
 same_book : (o : Opening) (b : Book) → opening_of b ≡ o → book_in o (totals_of b) ≡ b
 same_book o b e = λ i. book_in (sym e i) (totals_of b)
@@ -88,46 +93,54 @@ module _ (opening : Opening) (os : List Offer) (l : Lent) where
   abbrev built : Outcome Lengths
   built = build_outcome after (last_ledger opening os l).columns l.buffers
 
-  shut_back : (n : ℕ) (b : Book) (l' : Lent) → QuotesTray opening os l (Tray.Refused n b) l'
-      → tray_in opening n (totals_of b) (lengths_of (Built.Refused n)) ≡ Tray.Refused n b
-  unfolding tray_in reply_of tray_reply
-  shut_back n b l' h = go (eqb (open_refusal opening) none) refl h.answers
-    where
-      go : (t : Bool) → eqb (open_refusal opening) none ≡ t → shut n b ≡ (if t then heard after built else shut (open_refusal opening) zero_book)
-          → tray_in opening n (totals_of b) (lengths_of (Built.Refused n)) ≡ Tray.Refused n b
-      go true e k = let z : ◌≡◌ {A = ℕ} 0 1 = cc in absurd (omega arith)
-      go false e k =
-          let p : n ≡ open_refusal opening = cc in
-          let q : b ≡ zero_book = cc in
-          let u : is_opening n ≡ true = rw p (opening_number opening e) in
-          simp (u, q)
-
-  quoted_back : (b : Book) (a : Built) (l' : Lent) → QuotesTray opening os l (Tray.Quoted b a) l'
-      → tray_in opening (number_of (outcome a)) (totals_of b) (lengths_of a) ≡ Tray.Quoted b a
-  unfolding tray_in reply_of tray_reply
-  quoted_back b a l' h = go (eqb (open_refusal opening) none) refl h.answers
+  shut_for : (x : Unopened) (l' : Lent) → QuotesTray opening os l (reply_of (Err x)) l'
+      → QuotesFor opening os l (number x.refusal) (0 ∷ 0 ∷ 0 ∷ 0 ∷ []) (0 ∷ 0 ∷ []) l'
+  unfolding tray_in reply_of tray_reply book_of built_of lengths_of
+  shut_for x l' h = go (eqb (open_refusal opening) none) refl h.answers
     where
       go : (t : Bool) → eqb (open_refusal opening) none ≡ t
-          → heard b (outcome a) ≡ (if t then heard after built else shut (open_refusal opening) zero_book)
-          → tray_in opening (number_of (outcome a)) (totals_of b) (lengths_of a) ≡ Tray.Quoted b a
+          → shut (number x.refusal) x.book ≡ (if t then heard after built else shut (open_refusal opening) zero_book)
+          → QuotesFor opening os l (number x.refusal) (0 ∷ 0 ∷ 0 ∷ 0 ∷ []) (0 ∷ 0 ∷ []) l'
+      go true e k = let z : ◌≡◌ {A = ℕ} 0 1 = cc in absurd (omega arith)
+      go false e k =
+          let p : number x.refusal ≡ open_refusal opening = cc in
+          let q : x.book ≡ zero_book = cc in
+          let u : is_opening (number x.refusal) ≡ true = rw p (opening_number opening e) in
+          record { quotes = simp (u, sym q) h; record_written = rw u; lengths_written = rw u }
+
+  quoted_for : (tray : Tray) (l' : Lent) → QuotesTray opening os l (reply_of (Ok tray)) l'
+      → QuotesFor opening os l (number_in tray.built) (totals_of tray.book) (lengths_of (outcome tray.built)) l'
+  unfolding tray_in reply_of tray_reply book_of built_of
+  quoted_for tray l' h = go (eqb (open_refusal opening) none) refl h.answers
+    where
+      go : (t : Bool) → eqb (open_refusal opening) none ≡ t
+          → heard tray.book (outcome tray.built) ≡ (if t then heard after built else shut (open_refusal opening) zero_book)
+          → QuotesFor opening os l (number_in tray.built) (totals_of tray.book) (lengths_of (outcome tray.built)) l'
       go false e k = let z : ◌≡◌ {A = ℕ} 0 1 = cc in absurd (omega arith)
       go true e k =
           let d = h.claim (eqb-true (open_refusal opening) none e) in
-          let z = d.build.number in
           let qs = (tallied bsm opening l.columns os).quotes in
-          let short = is_short l.columns in
-          let u : is_opening (number_of (outcome a)) ≡ false = rw z (build_number qs l.buffers short) in
-          let k : Numbered (outcome a) = rw z (numbered_answer (surface_refusal qs l.buffers short) no_lengths (lengths (axes qs))) in
-          simp (u, same_book opening b d.list.inputs, built_back a k)
+          let n : number_in tray.built ≡ surface_refusal qs l.buffers (is_short l.columns) = sym (number_back tray.built) ∙ ap number_of d.build.number
+          ∙ number_answered _ _ _ in
+          let u : is_opening (number_in tray.built) ≡ false = rw n (build_number qs l.buffers (is_short l.columns)) in
+          let b = same_book opening tray.book d.list.inputs in
+          record {
+            quotes = simp (u, b, built_back tray.built) h;
+            record_written = simp (u, b);
+            lengths_written = simp (u, built_back tray.built);
+          }
 
-tray_back : (opening : Opening) (os : List Offer) (l : Lent) (t : Tray) (l' : Lent) → QuotesTray opening os l t l'
-    → tray_in opening (number_of (outcome (built_of t))) (totals_of (book_of t)) (lengths_of (built_of t)) ≡ t
-unfolding book_of built_of
-tray_back opening os l (Tray.Refused n b) l' h = shut_back opening os l n b l' h
-tray_back opening os l (Tray.Quoted b a) l' h = quoted_back opening os l b a l' h
+  module _ (a : Answers) (c : QuoteColumns) (b : SurfaceBuffers) (strikes expiries volatilities k t g : List Float) (n : List ℕ)
+      (e : ColumnsBack c strikes expiries volatilities) (f : BuffersBack b k t g n) where
+    lent_back : lent a (columns_of strikes expiries volatilities) (buffers_of k t g n) ≡ lent a (columns_held c) (buffers_in b)
+    lent_back = rw (e.strikes, e.expiries, e.volatilities, f.strike_axis, f.expiry_axis, f.grid, f.counts)
 
-pub quotes : (opening : Opening) (os : List Offer) (l : Lent) (t : Tray) (l' : Lent) (n : ℕ) (totals w : List ℕ) → QuotesTray opening os l t l'
-    → n ≡ number_of (outcome (built_of t)) → totals ≡ totals_of (book_of t) → w ≡ lengths_of (built_of t) → QuotesFor opening os l n totals w l'
-quotes opening os l t l' n totals w h p q r =
-    let b : tray_in opening n totals w ≡ t = rw (p, q, r) (tray_back opening os l t l' h) in
-    record { quotes = rw b h; record_written = rw (b, q); lengths_written = rw (b, r) }
+    pub shut_tray : (x : Unopened) (told : ℕ) → told ≡ number x.refusal
+        → QuotesTray opening os l (reply_of (Err x)) (lent a (columns_held c) (buffers_in b))
+        → QuotesFor opening os l told (0 ∷ 0 ∷ 0 ∷ 0 ∷ []) (0 ∷ 0 ∷ []) (lent a (columns_of strikes expiries volatilities) (buffers_of k t g n))
+    shut_tray x told p h = rw (p, lent_back) (shut_for x _ h)
+
+    pub quoted_tray : (tray : Tray) (told : ℕ) (w : List ℕ) → told ≡ number_in tray.built → w ≡ lengths_of (outcome tray.built)
+        → QuotesTray opening os l (reply_of (Ok tray)) (lent a (columns_held c) (buffers_in b))
+        → QuotesFor opening os l told (totals_of tray.book) w (lent a (columns_of strikes expiries volatilities) (buffers_of k t g n))
+    quoted_tray tray told w p q h = rw (p, q, lent_back) (quoted_for tray _ h)

@@ -1,5 +1,6 @@
 // The library for hosts: the calls of the crates below under C names, on numbers and lent memory. A call returns 0, or document 01's number.
-// A slice is passed as a pointer and then its length; a `&mut` to a number or to an array, as a pointer.
+// A slice is passed as a pointer and then its length; a `&mut` to a number or to an array, as a pointer. The C interface needs what goes together elsewhere,
+// an option, an opening, columns and buffers, as parameters of their own; an answer's number and its values likewise.
 #![tactic(auto)]
 
 ghost use Rattle.std.specs.Prelude.{◌≡◌};
@@ -9,16 +10,27 @@ ghost use Rattle.elementary.specs.Exp.{exp};
 ghost use Rattle.elementary.specs.Ln.{ln};
 ghost use Rattle.gauss.specs.Erfc.{erfc};
 ghost use Rattle.gauss.specs.Normal.{pdf, cdf};
-ghost use Rattle.blackscholes.specs.Checks.{pricing, sensitivities};
+ghost use Rattle.limits.specs.Outcome.{values_of};
+ghost use Rattle.limits.specs.Refusals.{outcome_with};
+ghost use Rattle.blackscholes.specs.Checks.{pricing, outcome_of_greeks, sensitivities};
 ghost use Rattle.blackscholes.specs.Implied.{implied};
 ghost use Rattle.grid.specs.Readings.{reading, middle_strike};
-ghost use Rattle.ledger.specs.Money.{at_the_money};
+ghost use Rattle.ledger.specs.Money.{at_the_money, money_outcome};
 ghost use Rattle.gaps.specs.Gaps.{FillsGaps};
 ghost use Rattle.ledger.specs.Book.{columns_of, end_of};
 ghost use Rattle.ledger.specs.Build.{buffers_of};
 ghost use Rattle.trays.specs.Tray.{answers, lent, heard_offers};
 ghost use Rattle.host.specs.Answers.{told, over, option_of, greeks_entries, money_entries, written, solved_written};
-ghost use Rattle.host.specs.Calls.{filling_in, book_in, BuildsFor, QuotesFor};
+ghost use Rattle.chart.specs.Build.{outcome};
+ghost use Rattle.host.specs.Calls.{book_in, lengths_of, BuildsFor, QuotesFor};
+
+use admission::{Quotes, SurfaceBuffers};
+use blackscholes::Greeks;
+use book::QuoteColumns;
+use chart::Lengths;
+use ledger::{Money, Opening};
+use limits::Refusal;
+use readings::Surface;
 
 // ---- the functions of src/normal.rs and what it calls
 
@@ -64,6 +76,16 @@ pub extern "C" fn kite_cdf(x: f64) -> f64
     normal::cdf(x)
 }
 
+// ---- an answer of one value
+
+// Writes the value, 0.0 beside a refusal, and returns the number.
+fn tell(answer: Result<f64, Refusal>, value: &mut f64) -> u64
+    ensures { told result value.new ≡ outcome_with (decimal 0 1) answer }
+{
+    *value = outcomes::values_of(answer, 0.0);
+    outcomes::number_of(answer)
+}
+
 // ---- an option
 
 // Checks 6 to 10.
@@ -79,9 +101,18 @@ pub extern "C" fn kite_bsm_price(
 ) -> u64
     ensures { told result price.new ≡ pricing (option_of put spot strike expiry rate volatility) }
 {
-    let answer = greeks::bsm_price(rows::option_of(put, spot, strike, expiry, rate, volatility));
-    *price = outcomes::price_value(answer);
-    outcomes::price_number(answer)
+    let option = rows::option_of(put, spot, strike, expiry, rate, volatility);
+    tell(greeks::bsm_price(option), price)
+}
+
+#[tactic(auto, unfolding(limits::proofs::Float::of_bits, limits::proofs::Float::round))]
+fn greeks_of(answer: Result<Greeks, Refusal>) -> [f64; 7]
+    ensures { result ≡ greeks_entries (values_of (outcome_of_greeks answer)) }
+{
+    match answer {
+        Ok(g) => [g.delta, g.gamma, g.theta, g.vega, g.rho, g.vanna, g.volga],
+        Err(_) => [0.0; 7],
+    }
 }
 
 // Checks 6 to 10. Writes delta, gamma, theta, vega, rho, vanna, volga.
@@ -98,9 +129,8 @@ pub extern "C" fn kite_bsm_greeks(
     ensures { told result greeks.new ≡ over greeks_entries (sensitivities (option_of put spot strike expiry rate volatility)) }
 {
     let answer = greeks::bsm_greeks(rows::option_of(put, spot, strike, expiry, rate, volatility));
-    let g = outcomes::greeks_values(answer);
-    *greeks = [g.delta, g.gamma, g.theta, g.vega, g.rho, g.vanna, g.volga];
-    outcomes::greeks_number(answer)
+    *greeks = greeks_of(answer);
+    outcomes::number_of(answer)
 }
 
 // Checks 5 to 9, then solves: 12, 13 (11 never holds: crate bounds).
@@ -134,9 +164,9 @@ pub extern "C" fn kite_implied_volatility(
 // Checks 2 and 15. Not-a-number is a gap.
 #[unsafe(no_mangle)]
 pub extern "C" fn kite_fill_gaps(grid: &mut [f64], strikes: u64, expiries: u64) -> u64
-    ensures { FillsGaps strikes expiries grid.old (filling_in result) grid.new }
+    ensures { FillsGaps strikes expiries grid.old (told result tt) grid.new }
 {
-    outcomes::filling_number(filler::fill_gaps(grid, strikes as usize, expiries as usize))
+    outcomes::number_of(filler::fill_gaps(grid, strikes as usize, expiries as usize))
 }
 
 // Checks 2, 15, 18, 19 and 20.
@@ -154,17 +184,14 @@ pub extern "C" fn kite_interpolate(
     ensures { told result volatility.new
         ≡ reading strike_axis.now expiry_axis.now grid.now strikes expiries strike expiry }
 {
-    let answer = readings::interpolate(
+    let surface = Surface {
         strike_axis,
         expiry_axis,
         grid,
-        strikes as usize,
-        expiries as usize,
-        strike,
-        expiry,
-    );
-    *volatility = outcomes::reading_value(answer);
-    outcomes::reading_number(answer)
+        strikes: strikes as usize,
+        expiries: expiries as usize,
+    };
+    tell(surface.interpolate(strike, expiry), volatility)
 }
 
 // The reading at the middle strike.
@@ -182,16 +209,24 @@ pub extern "C" fn kite_middle_strike(
         ≡ reading strike_axis.now expiry_axis.now grid.now strikes expiries
         (middle_strike strike_axis.now strikes) expiry }
 {
-    let answer = readings::middle_strike(
+    let surface = Surface {
         strike_axis,
         expiry_axis,
         grid,
-        strikes as usize,
-        expiries as usize,
-        expiry,
-    );
-    *volatility = outcomes::reading_value(answer);
-    outcomes::reading_number(answer)
+        strikes: strikes as usize,
+        expiries: expiries as usize,
+    };
+    tell(surface.middle_strike(expiry), volatility)
+}
+
+#[tactic(auto, unfolding(limits::proofs::Float::of_bits, limits::proofs::Float::round))]
+fn money_of(answer: Result<Money, Refusal>) -> [f64; 2]
+    ensures { result ≡ money_entries (values_of (money_outcome answer)) }
+{
+    match answer {
+        Ok(money) => [money.strike, money.volatility],
+        Err(_) => [0.0; 2],
+    }
 }
 
 // 2 of the record, then 2, 15, 18 and 20: at the strike nearest the record's spot. Writes the strike and the volatility.
@@ -212,17 +247,27 @@ pub extern "C" fn kite_at_the_money(
         ≡ over money_entries (at_the_money (book_in (record { spot = spot; rate = rate }) totals.now)
         strike_axis.now expiry_axis.now grid.now strikes expiries expiry) }
 {
-    let answer = money::at_the_money(
-        rows::book_of(spot, rate, *totals),
+    let surface = Surface {
         strike_axis,
         expiry_axis,
         grid,
-        strikes as usize,
-        expiries as usize,
-        expiry,
-    );
-    *values = outcomes::money_values(answer);
-    outcomes::money_number(answer)
+        strikes: strikes as usize,
+        expiries: expiries as usize,
+    };
+    let book = rows::book_of(Opening { spot, rate }, *totals);
+    let answer = money::at_the_money(book, &surface, expiry);
+    *values = money_of(answer);
+    outcomes::number_of(answer)
+}
+
+#[tactic(auto, unfolding(ledger::specs::Rows::lengths_of))]
+fn lengths_of(built: Result<Lengths, Refusal>) -> [u64; 2]
+    ensures { result ≡ lengths_of (outcome built) }
+{
+    match built {
+        Ok(lengths) => [lengths.strikes as u64, lengths.expiries as u64],
+        Err(_) => [0; 2],
+    }
 }
 
 // Checks 1, 2, 15, 16 and 17. Writes the surface, and both axis lengths.
@@ -245,18 +290,20 @@ pub extern "C" fn kite_build(
         result lengths.new
         (buffers_of strike_axis.new expiry_axis.new grid.new counts.new) }
 {
-    let built = surface::build(
+    let quotes = Quotes {
         strikes,
         expiries,
         volatilities,
-        count,
+    };
+    let mut buffers = SurfaceBuffers {
         strike_axis,
         expiry_axis,
         grid,
         counts,
-    );
-    *lengths = outcomes::built_lengths(built);
-    outcomes::built_number(built)
+    };
+    let built = surface::build(&quotes, count, &mut buffers);
+    *lengths = lengths_of(built);
+    outcomes::number_of(built)
 }
 
 // ---- a tray
@@ -291,24 +338,38 @@ pub extern "C" fn kite_quote_tray(
         (columns_of strikes.new expiries.new volatilities.new)
         (buffers_of strike_axis.new expiry_axis.new grid.new counts.new)) }
 {
-    let tray = batch::quote_tray(
-        spot,
-        rate,
-        kinds,
-        figures,
-        numbers,
-        evidence,
+    let mut columns = QuoteColumns {
         strikes,
         expiries,
         volatilities,
+    };
+    let mut buffers = SurfaceBuffers {
         strike_axis,
         expiry_axis,
         grid,
         counts,
+    };
+    let opening = Opening { spot, rate };
+    let tray = batch::quote_tray(
+        opening,
+        kinds,
+        figures,
+        numbers,
+        evidence,
+        &mut columns,
+        &mut buffers,
     );
-    let book = outcomes::book_of(tray);
-    let built = outcomes::built_of(tray);
-    *totals = [book.kept, book.refused, book.heard, book.evaluations];
-    *lengths = outcomes::built_lengths(built);
-    outcomes::built_number(built)
+    match tray {
+        Ok(tray) => {
+            let book = tray.book;
+            *totals = [book.kept, book.refused, book.heard, book.evaluations];
+            *lengths = lengths_of(tray.built);
+            outcomes::number_of(tray.built)
+        }
+        Err(unopened) => {
+            *totals = [0; 4];
+            *lengths = [0; 2];
+            u64::from(unopened.refusal)
+        }
+    }
 }

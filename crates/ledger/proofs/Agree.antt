@@ -13,7 +13,7 @@ use Rattle.limits.proofs.Checks.{passes}
 use Rattle.brent.specs.Feed.{most_evaluations}
 use Rattle.chart.specs.Quotes.{all_in_range}
 use Rattle.chart.proofs.Kept.{Long, long}
-use Rattle.ledger.specs.Model.{Opening}
+use Rattle.ledger.specs.declared.Opening.{Opening}
 use Rattle.ledger.specs.Tally.{Tally, fresh as noQuotes}
 use Rattle.ledger.specs.Book.{Columns, opening_of, fresh, open_refusal, is_short, is_broken}
 use Rattle.ledger.specs.Claim.{Ledger, holding}

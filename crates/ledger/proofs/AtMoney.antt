@@ -1,23 +1,22 @@
 -- The reading at the money: its numbers, its strike and its volatility. Assumes nothing.
 use Prim.Native.Nat.{ℕ, ◌<◌}
 use mathlib.Core.Path.{◌≡◌, refl, sym, ap, ◌∙◌}
-use mathlib.Core.Bool.{Bool, true, false}
+use mathlib.Core.Bool.{Bool, true}
 use mathlib.Core.List.{List, [], ◌∷◌}
 use native.Mathlib.Omega.{arith}
-use borrow.Author.Tests.{ne_eqb}
 use lib.ListN.{take, get_or}
 use lib.Seq.{length-take-le, get_or-take}
 use lib.Ieee.{Float, nan}
 use Rattle.limits.specs.Checks.{first, none}
 use Rattle.limits.proofs.Checks.{none_passes, elsewhere}
-use Rattle.limits.proofs.Answers.{number_answered, done_answered, refused_answered, none_answered, refused_number}
-use Rattle.limits.specs.Outcome.{Outcome, done, refused, is_done, number_of, values_of, answered}
+use Rattle.limits.proofs.Answers.{number_answered, done_answered, refused_answered, none_answered}
+use Rattle.limits.specs.Outcome.{Outcome, done, is_done, number_of, values_of}
 use Rattle.grid.specs.Readings.{reading}
 use Rattle.grid.specs.Nearest.{nearest, nearest_strike, axis_refusal, IsNearest}
 use Rattle.grid.proofs.Nearest.{nearest_laws}
 use Rattle.grid.proofs.AtAxis.{at_axis_passed, at_axis_laws}
 use Rattle.ledger.specs.Book.{is_broken}
-use Rattle.ledger.specs.Money.{money_strike, no_money, at_the_money, money, gap_at, MoneyClaim}
+use Rattle.ledger.specs.Money.{money_strike, at_the_money, money, gap_at, MoneyClaim}
 use Rattle.ledger.specs.declared.Book.{Book}
 
 module _ (b : Book) (K E grid : List Float) (strikes expiries : ℕ) (expiry : Float) where
@@ -75,20 +74,3 @@ module _ (b : Book) (K E grid : List Float) (strikes expiries : ℕ) (expiry : F
         nearest = λ d. rw (values d) (there d);
         read = λ d. rw (values d) (read_is d);
       }
-
--- ---- as the code makes it: the record is sound, and the read at the nearest strike is answered
-module _ (b : Book) (K E grid : List Float) (strikes expiries : ℕ) (expiry : Float) where
-  pub money_broken : is_broken b ≡ true → refused 2 no_money ≡ at_the_money b K E grid strikes expiries expiry
-  unfolding at_the_money answered first
-  money_broken t = rw t
-
-  module _ (k : Float) (sound : is_broken b ≡ false) (at : k ≡ money_strike b K strikes) where
-    pub money_value : (v : Float) → done v ≡ reading K E grid strikes expiries k expiry
-        → done (record { strike = k; volatility = v }) ≡ at_the_money b K E grid strikes expiries expiry
-    unfolding at_the_money answered first
-    money_value v r = rw (sound, ← at, ← r)
-
-    pub money_refused : (n : ℕ) (x : Float) → refused n x ≡ reading K E grid strikes expiries k expiry
-        → refused n no_money ≡ at_the_money b K E grid strikes expiries expiry
-    unfolding at_the_money answered first reading
-    money_refused n x r = rw (sound, ← at, ← r, ne_eqb n none (refused_number _ _ _ n x r))

@@ -23,7 +23,7 @@ use Rattle.chart.specs.Build.{lengths, no_lengths, is_wrong, is_small, refusal, 
 use Rattle.chart.proofs.Housing.{meaning}
 use Rattle.chart.proofs.Layouts.{table_length, table_at, table_else}
 use Rattle.chart.proofs.Neighbour.{Left, Right, left_is, right_is, source_own}
-use Rattle.ledger.specs.Model.{Opening}
+use Rattle.ledger.specs.declared.Opening.{Opening}
 use Rattle.ledger.specs.Tally.{Tally}
 use Rattle.ledger.specs.Book.{Columns, open_refusal, is_short}
 use Rattle.ledger.specs.Build.{Buffers, quotes_of, build_refusal, build_outcome, buffers_after}

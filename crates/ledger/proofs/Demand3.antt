@@ -3,7 +3,7 @@
 use borrow.Author.Tests.{eq-eqb, ne_eqb}
 use Rattle.limits.specs.Checks.{first, none}
 use Rattle.limits.specs.Outcome.{answered}
-use Rattle.ledger.specs.Model.{Opening}
+use Rattle.ledger.specs.declared.Opening.{Opening}
 use Rattle.ledger.specs.Book.{open_refusal, opened}
 use Rattle.ledger.specs.Claim.{Claim, OpeningClaim, tallied, ledger}
 use Rattle.ledger.proofs.Lists.{list_claim, agreed, quoted}

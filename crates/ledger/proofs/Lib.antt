@@ -6,7 +6,6 @@ pub mod Quoted
 pub mod Agree
 pub mod Once
 pub mod Lists
-pub mod Lengths
 pub mod Builds
 pub mod Demand3
 pub mod TeethSurface

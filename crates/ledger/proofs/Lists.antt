@@ -9,7 +9,8 @@ use Rattle.limits.specs.Checks.{none}
 use Rattle.limits.specs.Outcome.{Outcome, values_of}
 use Rattle.brent.specs.declared.Solution.{Solution}
 use Rattle.chart.proofs.Kept.{read_back}
-use Rattle.ledger.specs.Model.{Opening, Model}
+use Rattle.ledger.specs.Model.{Model}
+use Rattle.ledger.specs.declared.Opening.{Opening}
 use Rattle.ledger.specs.Tally.{Tally, fresh as noQuotes, step}
 use Rattle.ledger.specs.Book.{Columns, open_refusal, is_short}
 use Rattle.ledger.specs.Build.{quotes_of}

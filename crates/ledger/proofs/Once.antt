@@ -16,7 +16,8 @@ use Rattle.brent.specs.declared.Solution.{Solution}
 use Rattle.brent.specs.Outcome.{zeros}
 use Rattle.chart.specs.Quotes.{Quote}
 use Rattle.chart.proofs.Kept.{long}
-use Rattle.ledger.specs.Model.{Opening, Model, prices_of}
+use Rattle.ledger.specs.Model.{Model, prices_of}
+use Rattle.ledger.specs.declared.Opening.{Opening}
 use Rattle.ledger.specs.Tally.{Fate, listed, turned, fate, Tally, turned_down, quote_of, listed_at, accounted, step}
 use Rattle.ledger.specs.Book.{Columns, open_refusal, is_short, own_refusal, offer_refusal, answer, offer_outcome, turned_book, book_after, filed, columns_after}
 use Rattle.ledger.specs.Claim.{Ledger, reply, list_after, number_from, Evidence, Right, holding}

@@ -17,8 +17,9 @@ use Rattle.brent.specs.Outcome.{ended, zeros}
 use Rattle.brent.specs.Feed.{over}
 use Rattle.blackscholes.specs.declared.OptionType.{OptionType}
 use Rattle.chart.specs.Quotes.{Quote}
-use Rattle.chart.specs.Build.{Lengths}
-use Rattle.ledger.specs.Model.{Opening, Model, prices_of}
+use Rattle.chart.specs.declared.Lengths.{Lengths}
+use Rattle.ledger.specs.Model.{Model, prices_of}
+use Rattle.ledger.specs.declared.Opening.{Opening}
 use Rattle.ledger.specs.Fold.{Each}
 use Rattle.ledger.specs.Tally.{Tally, fresh as noQuotes, step}
 use Rattle.ledger.specs.Book.{Columns, open_refusal, is_short}

@@ -1,5 +1,5 @@
 -- Document 01, 'The quote book': what each call answers, and what it does to the record and the columns, for every record and columns a caller can pass.
-use Rattle.std.specs.Prelude.{ℕ, ◌+◌, ◌*◌, Bool, not, ◌||◌, leb, ltb, eqb, set, Float, if◌then◌else◌}
+use Rattle.std.specs.Prelude.{ℕ, ◌+◌, ◌*◌, Bool, not, ◌||◌, leb, ltb, eqb, set, Float, Result, Ok, Err, if◌then◌else◌}
 use Rattle.floats.specs.Operators.{decimal}
 use Rattle.limits.specs.Ranges.{is_spot, is_strike, is_expiry, is_rate}
 use Rattle.limits.specs.Checks.{first, none}
@@ -11,12 +11,14 @@ use Rattle.brent.specs.Run.{run_with}
 pub use Rattle.chart.specs.Quotes.{Columns, columns_of}
 unfoldable pub use Rattle.chart.specs.Quotes.{is_short}
 use Rattle.blackscholes.specs.declared.OptionType.{OptionType}
-use Rattle.ledger.specs.Model.{Opening, Model, prices_of, bad_price, bad_volatility}
+use Rattle.ledger.specs.Model.{Model, prices_of, bad_price, bad_volatility}
+use Rattle.ledger.specs.declared.Opening.{Opening}
 use Rattle.ledger.specs.declared.Book.{Book}
 use Rattle.ledger.specs.declared.Offer.{Offer}
 use Rattle.ledger.specs.declared.Terms.{Terms}
 use Rattle.ledger.specs.declared.Terms.TheVariants.{Volatility, Price}
-use Rattle.ledger.specs.declared.Opened.{Opened}
+use Rattle.limits.specs.Refusals.{number}
+use Rattle.ledger.specs.declared.Unopened.{Unopened}
 
 -- ---- the record, and the columns that are lent
 abbrev pub opening_of : Book → Opening
@@ -41,9 +43,10 @@ unfoldable pub opened : Opening → Outcome Book
 unfolding open_refusal
 opened o = answered (open_refusal o) zero_book (fresh o)
 
-unfoldable pub outcome_of_opening : Opened → Outcome Book
-outcome_of_opening (Opened.Fresh book) = done book
-outcome_of_opening (Opened.Refused number book) = refused number book
+-- "A refused opening returns a record of zeros."
+abbrev pub outcome_of_opening : Result Book Unopened → Outcome Book
+outcome_of_opening (Ok book) = done book
+outcome_of_opening (Err unopened) = refused (number unopened.refusal) unopened.book
 
 -- ---- the checks of every offer
 -- 1 is `is_short` of the columns; by their lengths:

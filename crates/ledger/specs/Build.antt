@@ -5,8 +5,8 @@ use Rattle.limits.specs.Outcome.{Outcome, answered, unless_refused}
 use Rattle.chart.specs.Quotes.{Quote, quotes}
 use Rattle.chart.specs.Cells.{axes}
 pub use Rattle.chart.specs.Build.{Buffers, buffers_of}
-use Rattle.chart.specs.Build.{Lengths, lengths, no_lengths, refusal, surface_of, BuildsTo}
-use Rattle.chart.specs.declared.Built.{Built}
+use Rattle.chart.specs.Build.{lengths, no_lengths, refusal, surface_of, BuildsTo}
+use Rattle.chart.specs.declared.Lengths.{Lengths}
 use Rattle.ledger.specs.Book.{Columns, is_short, is_broken}
 use Rattle.ledger.specs.declared.Book.{Book}
 
@@ -28,5 +28,5 @@ abbrev pub buffers_after : Book → Columns → Buffers → Buffers
 buffers_after b c s = unless_refused (build_refusal b c s) (surface_of (quotes_of b c) s) s
 
 -- What a call of `build` leaves.
-abbrev pub BuildsBook : Book → Columns → Buffers → Built → Buffers → Type 0
+abbrev pub BuildsBook : Book → Columns → Buffers → Outcome Lengths → Buffers → Type 0
 BuildsBook b c s answer s' = BuildsTo (build_refusal b c s) (quotes_of b c) s answer s'

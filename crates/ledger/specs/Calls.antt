@@ -1,5 +1,5 @@
 -- What the book's calls promise: answer, record and every lent entry.
-use Rattle.std.specs.Prelude.{ℕ, ◌≤◌, ◌<◌, length, ◌≡◌}
+use Rattle.std.specs.Prelude.{ℕ, ◌+◌, ◌*◌, ◌≤◌, ◌<◌, length, ◌≡◌}
 use Rattle.limits.specs.Outcome.{Outcome, done, refused}
 use Rattle.brent.specs.declared.Solution.{Solution}
 use Rattle.brent.specs.Feed.{most_evaluations}
@@ -31,10 +31,16 @@ abbrev pub Ended : Outcome Solution → Type 0
 Ended (done x) = x.evaluations ≤ most_evaluations
 Ended (refused number x) = (3 < number) × (x.evaluations ≤ most_evaluations)
 
--- It refused.
-abbrev pub Turned : Outcome Solution → Type 0
-Turned (done x) = ⊥
-Turned (refused number x) = (3 < number) × (x.evaluations ≤ most_evaluations)
+-- A record that has room for one offer more, and for the evaluations made.
+pub record Counts (b : Book) (made : ℕ) : Type 0 where
+  pub hears : b.heard < 60000
+  pub turned : b.refused ≤ b.heard
+  pub few : b.evaluations + made ≤ most_evaluations * 60000
+
+-- What an outcome that is counted in the record tells of it.
+abbrev pub Counted : Book → Outcome Solution → Type 0
+Counted b (done x) = (b.kept < 1024) × Counts b x.evaluations
+Counted b (refused number x) = 3 < number → Counts b x.evaluations
 
 -- What the solver of a price answers.
 pub record Solves (o : Outcome Solution) (r : Outcome Solution) : Type 0 where

@@ -17,9 +17,11 @@ use Rattle.chart.specs.Quotes.{Quote}
 use Rattle.chart.specs.Axis.{place}
 use Rattle.chart.specs.Cells.{axes, count, mean}
 use Rattle.chart.specs.Meaning.{sum_to}
-use Rattle.chart.specs.Build.{Lengths, lengths, no_lengths}
+use Rattle.chart.specs.Build.{lengths, no_lengths}
+use Rattle.chart.specs.declared.Lengths.{Lengths}
 use Rattle.blackscholes.specs.declared.OptionType.{OptionType}
-use Rattle.ledger.specs.Model.{Opening, Model}
+use Rattle.ledger.specs.Model.{Model}
+use Rattle.ledger.specs.declared.Opening.{Opening}
 use Rattle.ledger.specs.Fold.{after, along, Each}
 use Rattle.ledger.specs.Tally.{Tally, fresh as noQuotes, quote_of, step, tally}
 use Rattle.ledger.specs.Book.{Columns, opening_of, fresh, open_refusal, opened, is_short, is_broken, offer_outcome, book_after, columns_after}
@@ -249,4 +251,5 @@ pub record Demand3 (model : Model) (opening : Opening) (c : Columns) (os : List 
 -- The claim: whatever the model, the columns, the list and the buffers, of a fresh book.
 pub record Claim : Type 0 where
   pub opening : (opening : Opening) → OpeningClaim opening (opened opening)
-  pub demand_3 : (model : Model) (opening : Opening) → open_refusal opening ≡ none → (c : Columns) (os : List Offer) (s : Buffers) → Demand3 model opening c os s
+  pub demand_3 : (model : Model) (opening : Opening) → open_refusal opening ≡ none → (c : Columns) (os : List Offer) (s : Buffers)
+      → Demand3 model opening c os s

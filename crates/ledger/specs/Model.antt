@@ -4,13 +4,10 @@ use Rattle.limits.specs.Ranges.{is_price, is_volatility}
 use Rattle.blackscholes.specs.Model.{price}
 use Rattle.blackscholes.specs.declared.OptionType.{OptionType}
 use Rattle.ledger.specs.declared.Offer.{Offer}
+-- S-6 will put the yield into an opening.
+use Rattle.ledger.specs.declared.Opening.{Opening}
 use Rattle.ledger.specs.declared.Terms.{Terms}
 use Rattle.ledger.specs.declared.Terms.TheVariants.{Volatility, Price}
-
--- The opening's inputs. S-6 will put the yield here.
-pub record Opening : Type 0 where
-  pub spot : Float
-  pub rate : Float
 
 -- The price at a volatility, of an option by its kind, strike and expiry.
 abbrev pub Model : Type 0

@@ -1,10 +1,10 @@
 -- Document 02, S-2: "At-the-money takes the book record, checked by 2, and becomes the strike nearest its spot by float difference, the lower one on a tie."
 -- It reads there as `interpolate` does. The record's part of 2 is tested before the surface's.
-use Rattle.std.specs.Prelude.{ℕ, ◌<◌, ◌≡◌, Bool, true, false, List, take, get_or, Float}
+use Rattle.std.specs.Prelude.{ℕ, ◌<◌, ◌≡◌, Bool, true, false, List, take, get_or, Float, Result}
 use Rattle.std.specs.Float.{nan}
 use Rattle.floats.specs.Operators.{decimal}
 use Rattle.limits.specs.Checks.{first}
-use Rattle.limits.specs.Outcome.{Outcome, done, refused, is_done, number_of, values_of, answered}
+use Rattle.limits.specs.Outcome.{Outcome, done, is_done, number_of, values_of, answered}
 use Rattle.grid.specs.Readings.{bracket, corners, has_gap}
 unfoldable pub use Rattle.grid.specs.Readings.{reading}
 use Rattle.grid.specs.Nearest.{axis_refusal, IsNearest}
@@ -12,8 +12,8 @@ unfoldable pub use Rattle.grid.specs.Nearest.{nearest_strike}
 unfoldable pub use Rattle.ledger.specs.Book.{is_broken}
 use Rattle.ledger.specs.declared.Book.{Book}
 use Rattle.ledger.specs.declared.Money.{Money}
-use Rattle.ledger.specs.declared.AtTheMoney.{AtTheMoney}
-use Rattle.ledger.specs.declared.AtTheMoney.TheVariants.{Value, Refused}
+use Rattle.limits.specs.Refusals.{outcome_with}
+use Rattle.limits.specs.declared.Refusal.{Refusal}
 
 -- The strike nearest the record's spot, of those in use.
 abbrev pub money_strike : Book → List Float → ℕ → Float
@@ -31,9 +31,8 @@ at_the_money b strikeAxis expiryAxis grid strikes expiries expiry =
     answered (first (is_broken b) 2 (number_of read)) no_money (record { strike = strike; volatility = values_of read })
 
 -- The answer in document 01's terms.
-abbrev pub money_outcome : AtTheMoney → Outcome Money
-money_outcome (Value money) = done money
-money_outcome (Refused number) = refused number no_money
+abbrev pub money_outcome : Result Money Refusal → Outcome Money
+money_outcome answer = outcome_with no_money answer
 
 -- ---- what it comes to
 module _ (b : Book) (K E grid : List Float) (strikes expiries : ℕ) (expiry : Float) where

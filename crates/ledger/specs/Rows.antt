@@ -11,8 +11,10 @@ use Rattle.blackscholes.specs.declared.OptionType.TheVariants.{Call, Put}
 use Rattle.blackscholes.specs.declared.OptionParams.{OptionParams}
 use Rattle.blackscholes.specs.declared.Greeks.{Greeks}
 use Rattle.blackscholes.specs.Model.{price}
-use Rattle.chart.specs.declared.Built.{Built}
-use Rattle.ledger.specs.Model.{Opening, bsm, volatility, priced}
+use Rattle.chart.specs.Build.{no_lengths}
+use Rattle.chart.specs.declared.Lengths.{Lengths}
+use Rattle.ledger.specs.Model.{bsm, volatility, priced}
+use Rattle.ledger.specs.declared.Opening.{Opening}
 use Rattle.ledger.specs.declared.Book.{Book}
 use Rattle.ledger.specs.declared.Money.{Money}
 use Rattle.ledger.specs.declared.Offer.{Offer}
@@ -66,12 +68,15 @@ abbrev pub money_entries : Money → List Float
 money_entries m = m.strike ∷ m.volatility ∷ []
 
 -- ---- a build: both axis lengths, or twice 0; and the answer that a number and two lengths stand for
-unfoldable pub lengths_of : Built → List ℕ
-lengths_of (Built.Surface strikes expiries) = strikes ∷ expiries ∷ []
-lengths_of (Built.Refused number) = 0 ∷ 0 ∷ []
+abbrev pub lengths_entries : Lengths → List ℕ
+lengths_entries n = n.strikes ∷ n.expiries ∷ []
 
-unfoldable pub built_in : ℕ → List ℕ → Built
-built_in number lengths = if eqb number none then Built.Surface (get_or lengths 0 0) (get_or lengths 1 0) else Built.Refused number
+unfoldable pub lengths_of : Outcome Lengths → List ℕ
+lengths_of built = lengths_entries (values_of built)
+
+unfoldable pub built_in : ℕ → List ℕ → Outcome Lengths
+built_in number lengths =
+    if eqb number none then done (record { strikes = get_or lengths 0 0; expiries = get_or lengths 1 0 }) else refused number no_lengths
 
 -- ---- a record's totals: kept, refused, heard and evaluations; and the record that they stand for, after an opening
 abbrev pub totals_of : Book → List ℕ
@@ -109,10 +114,10 @@ pub record Rows : Type 0 where
       ≡ delta ∷ gamma ∷ theta ∷ vega ∷ rho ∷ vanna ∷ volga ∷ []
   pub money : (strike volatility : Float) → money_entries (record { strike = strike; volatility = volatility }) ≡ strike ∷ volatility ∷ []
   -- strikes, then expiries
-  pub lengths : (strikes expiries : ℕ) → lengths_of (Built.Surface strikes expiries) ≡ strikes ∷ expiries ∷ []
-  pub no_lengths : (number : ℕ) → lengths_of (Built.Refused number) ≡ 0 ∷ 0 ∷ []
-  pub built : (strikes expiries : ℕ) → built_in 0 (strikes ∷ expiries ∷ []) ≡ Built.Surface strikes expiries
-  pub not_built : (number : ℕ) (lengths : List ℕ) → (number ≡ 0 → ⊥) → built_in number lengths ≡ Built.Refused number
+  pub lengths : (strikes expiries : ℕ) → lengths_of (done (record { strikes = strikes; expiries = expiries })) ≡ strikes ∷ expiries ∷ []
+  pub no_lengths : (number : ℕ) → lengths_of (refused number (record { strikes = 0; expiries = 0 })) ≡ 0 ∷ 0 ∷ []
+  pub built : (strikes expiries : ℕ) → built_in 0 (strikes ∷ expiries ∷ []) ≡ done (record { strikes = strikes; expiries = expiries })
+  pub not_built : (number : ℕ) (lengths : List ℕ) → (number ≡ 0 → ⊥) → built_in number lengths ≡ refused number (record { strikes = 0; expiries = 0 })
   -- kept, refused, heard, evaluations
   pub totals : (spot rate : Float) (k r h e : ℕ)
       → totals_of (record { spot = spot; rate = rate; kept = k; refused = r; heard = h; evaluations = e }) ≡ k ∷ r ∷ h ∷ e ∷ []

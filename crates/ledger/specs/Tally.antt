@@ -8,7 +8,8 @@ use Rattle.brent.specs.Run.{run_with}
 use Rattle.chart.specs.Quotes.{Quote}
 use Rattle.blackscholes.specs.declared.OptionType.{OptionType}
 use Rattle.ledger.specs.Fold.{after}
-use Rattle.ledger.specs.Model.{Opening, Model}
+use Rattle.ledger.specs.Model.{Model}
+use Rattle.ledger.specs.declared.Opening.{Opening}
 use Rattle.ledger.specs.declared.Offer.{Offer}
 use Rattle.ledger.specs.declared.Terms.{Terms}
 use Rattle.ledger.specs.declared.Terms.TheVariants.{Volatility, Price}

@@ -7,4 +7,4 @@ use Rattle.protocol.specs.Hear.{ledger}
 use Rattle.lines.specs.declared.Progress.{Progress}
 
 abbrev pub place : Progress → Columns → List ℕ → Place Ledger
-place p c out = record { book = ledger p.book c; line = p.line; at = p.at; out = out }
+place p c out = record { book = ledger p.state.book c; line = p.state.line; at = p.at; out = out }

@@ -3,251 +3,115 @@
 // An answer is written once for all its repetitions in a row, behind how many there are; the end of a tray is written too.
 #![tactic(auto)]
 
-ghost use Rattle.std.specs.Prelude.{◌≤◌, length};
-
-use protocol::{Fed, State, Text};
+use book::QuoteColumns;
+use protocol::{Fed, State};
 
 const STDIN_FILENO: i32 = 0;
 
 const STDOUT_FILENO: i32 = 1;
 
-// The program's state, the last answer, and how many times it came in a row.
+// The program's state and its columns, the last answer, and how many times it came in a row.
 #[derive(Drop)]
-struct Run {
+struct Run<'a> {
     state: State,
+    columns: QuoteColumns<'a>,
     last: [u8; 19],
     times: u64,
 }
 
-fn digit(b: u8) -> u64
-    ensures { result ≤ 9 }
-{
-    if b < 48 {
-        return 0;
-    }
-    if b > 57 {
-        return 9;
-    }
-    (b - 48) as u64
-}
-
-// The count that a line starts with; 0 where it is too short for one and its mark.
-fn count_of(line: &[u8]) -> u64 {
-    if line.len() < 6 {
-        return 0;
-    }
-    let high = digit(line[0]) * 10000 + digit(line[1]) * 1000;
-    high + digit(line[2]) * 100 + digit(line[3]) * 10 + digit(line[4])
-}
-
-fn same(a: &[u8; 19], b: &[u8; 19]) -> bool {
-    let mut i = 0;
-    while i < 19 {
-        if a[i] != b[i] {
-            return false;
-        }
-        i += 1;
-    }
-    true
-}
-
-fn front(out: &[u8; 64]) -> [u8; 19] {
-    let mut answer = [0u8; 19];
-    let mut i = 0;
-    while i < 19 {
-        answer[i] = out[i];
-        i += 1;
-    }
-    answer
-}
-
-// An answer ends with a line feed.
-fn show(answer: &[u8; 19], times: u64) {
-    if times == 0 {
-        return;
-    }
-    io::print_decimal(STDOUT_FILENO, times);
-    io::write_all(STDOUT_FILENO, b" ");
-    io::write_all(STDOUT_FILENO, answer);
-}
-
-// One more answer: the same as the last, or another.
-fn answered(run: Run, answer: [u8; 19]) -> Run {
-    let state = run.state;
-    let last = run.last;
-    if same(&last, &answer) {
-        if run.times < 100000 {
-            return Run {
-                state,
-                last,
-                times: run.times + 1,
-            };
+impl Run<'_> {
+    // An answer ends with a line feed.
+    fn show(&self) {
+        if self.times > 0 {
+            io::print_decimal(STDOUT_FILENO, self.times);
+            io::write_all(STDOUT_FILENO, b" ");
+            io::write_all(STDOUT_FILENO, &self.last);
         }
     }
-    show(&last, run.times);
-    Run {
-        state,
-        last: answer,
-        times: 1,
-    }
-}
 
-// What was written for a piece: nothing, or one answer.
-fn noted(run: Run, fed: Fed, out: &[u8; 64]) -> Run {
-    let state = fed.state;
-    let text = fed.text;
-    let last = run.last;
-    let next = Run {
-        state,
-        last,
-        times: run.times,
-    };
-    match text {
-        Text::Written { count } => {
-            if count == 0 {
-                return next;
+    // One more answer: the same as the last, or another.
+    fn note(&mut self, answer: [u8; 19]) {
+        if self.last == answer && self.times < 100000 {
+            self.times += 1;
+        } else {
+            self.show();
+            self.last = answer;
+            self.times = 1;
+        }
+    }
+
+    // What was written for a piece: nothing, or one answer.
+    fn note_text(&mut self, fed: Fed, out: &[u8; 64]) {
+        self.state = fed.state;
+        match fed.text {
+            Ok(0) => {}
+            Ok(_) => self.note(*out.first_chunk().unwrap()),
+            Err(_) => {
+                io::write_all(STDOUT_FILENO, b"short\n");
             }
-            answered(next, front(out))
-        }
-        Text::Short { lines: _ } => {
-            io::write_all(STDOUT_FILENO, b"short\n");
-            next
         }
     }
-}
 
-fn feed_piece(
-    run: Run,
-    piece: &[u8],
-    strikes: &mut [f64; 1024],
-    expiries: &mut [f64; 1024],
-    volatilities: &mut [f64; 1024],
-) -> Run {
-    let mut out = [0u8; 64];
-    let fed = lines::feed(run.state, piece, strikes, expiries, volatilities, &mut out);
-    noted(run, fed, &out)
-}
-
-// A line feed is a chunk of its own.
-fn feed_line(
-    run: Run,
-    piece: &[u8],
-    ended: bool,
-    strikes: &mut [f64; 1024],
-    expiries: &mut [f64; 1024],
-    volatilities: &mut [f64; 1024],
-) -> Run {
-    let r = feed_piece(run, piece, strikes, expiries, volatilities);
-    if ended {
-        return feed_piece(r, b"\n", strikes, expiries, volatilities);
+    fn feed(&mut self, piece: &[u8]) {
+        let mut out = [0u8; 64];
+        let fed = lines::feed(self.state, piece, &mut self.columns, &mut out);
+        self.note_text(fed, &out);
     }
-    r
-}
 
-fn feed_times(
-    run: Run,
-    times: u64,
-    piece: &[u8],
-    ended: bool,
-    strikes: &mut [f64; 1024],
-    expiries: &mut [f64; 1024],
-    volatilities: &mut [f64; 1024],
-) -> Run {
-    let mut r = run;
-    let mut i = 0;
-    while i < times {
-        r = feed_line(r, piece, ended, strikes, expiries, volatilities);
-        i += 1;
+    // The tray ends, and a new one begins. The columns are not cleared: the program must not read what an earlier book left there.
+    fn end_tray(&mut self) {
+        let mut out = [0u8; 64];
+        let fed = lines::finish(self.state, &mut self.columns, &mut out);
+        self.note_text(fed, &out);
+        self.show();
+        io::write_all(STDOUT_FILENO, b"end\n");
+        self.state = lines::start();
+        self.times = 0;
     }
-    r
-}
 
-fn fresh() -> Run {
-    Run {
-        state: lines::start(),
-        last: [0u8; 19],
-        times: 0,
-    }
-}
-
-// The tray ends, and a new one begins. The columns are not cleared: the program must not read what an earlier book left there.
-fn end_tray(
-    run: Run,
-    strikes: &mut [f64; 1024],
-    expiries: &mut [f64],
-    volatilities: &mut [f64],
-) -> Run {
-    let mut out = [0u8; 64];
-    let fed = lines::finish(run.state, strikes, expiries, volatilities, &mut out);
-    let r = noted(run, fed, &out);
-    let last = r.last;
-    show(&last, r.times);
-    io::write_all(STDOUT_FILENO, b"end\n");
-    fresh()
-}
-
-fn run_line(
-    run: Run,
-    line: &[u8],
-    strikes: &mut [f64; 1024],
-    expiries: &mut [f64; 1024],
-    volatilities: &mut [f64; 1024],
-) -> Run {
-    if line.len() < 6 {
-        return run;
-    }
-    let mark = line[5];
-    if mark == b'.' {
-        return end_tray(run, strikes, expiries, volatilities);
-    }
-    let times = count_of(line);
-    feed_times(
-        run,
-        times,
-        &line[6..],
-        mark == b' ',
-        strikes,
-        expiries,
-        volatilities,
-    )
-}
-
-// Where the line that starts at `from` ends.
-fn line_end(input: &[u8], from: usize) -> usize
-    requires { from ≤ length input.now }
-    ensures { (from ≤ result) × (result ≤ length input.now) }
-{
-    let mut i = from;
-    while i < input.len() {
-        if input[i] == b'\n' {
-            return i;
+    // A line feed is a chunk of its own.
+    fn run_line(&mut self, line: &[u8]) {
+        let Some((head, piece)) = line.split_first_chunk::<6>() else {
+            return;
+        };
+        let mark = head[5];
+        if mark == b'.' {
+            return self.end_tray();
         }
-        i += 1;
+        for _ in 0..count_of(&head[..5]) {
+            self.feed(piece);
+            if mark == b' ' {
+                self.feed(b"\n");
+            }
+        }
     }
-    i
 }
 
-fn run_all(input: &[u8]) {
-    let mut strikes = [0.0f64; 1024];
-    let mut expiries = [0.0f64; 1024];
-    let mut volatilities = [0.0f64; 1024];
-    let mut run = fresh();
-    let mut from = 0;
-    while from < input.len() {
-        let to = line_end(input, from);
-        run = run_line(
-            run,
-            &input[from..to],
-            &mut strikes,
-            &mut expiries,
-            &mut volatilities,
-        );
-        from = to + 1;
+// The count that digits write; 0 where they write none.
+fn count_of(digits: &[u8]) -> u64 {
+    match str::from_utf8(digits) {
+        Ok(text) => text.parse().unwrap_or(0),
+        Err(_) => 0,
     }
 }
 
 fn main() {
     let mut space = io::large_buffer();
     let n = io::read_full(STDIN_FILENO, &mut space);
-    run_all(&space[..n]);
+    let mut strikes = [0.0f64; 1024];
+    let mut expiries = [0.0f64; 1024];
+    let mut volatilities = [0.0f64; 1024];
+    let mut run = Run {
+        state: lines::start(),
+        columns: QuoteColumns {
+            strikes: &mut strikes,
+            expiries: &mut expiries,
+            volatilities: &mut volatilities,
+        },
+        last: [0u8; 19],
+        times: 0,
+    };
+    for line in space[..n].split(|&b| b == b'\n') {
+        run.run_line(line);
+    }
 }

@@ -4,39 +4,18 @@
 ghost use Rattle.std.specs.Prelude.{◌≡◌};
 ghost use Rattle.ledger.specs.Money.{at_the_money, money_outcome};
 
-use grid::Reading;
-use ledger::{AtTheMoney, Book, Money};
+use ledger::{Book, Money};
+use limits::{Refusal, check};
+use readings::Surface;
 
 // 2 of the record; then 2, 15, 18 and 20 of the surface. 19 cannot hold of a strike of the axis.
-pub fn at_the_money(
-    book: Book,
-    strike_axis: &[f64],
-    expiry_axis: &[f64],
-    grid: &[f64],
-    strikes: usize,
-    expiries: usize,
-    expiry: f64,
-) -> AtTheMoney
+#[tactic(auto, unfolding(ledger::specs::Money::at_the_money, limits::specs::Checks::first, limits::specs::Outcome::answered))]
+pub fn at_the_money(book: Book, surface: &Surface<'_>, expiry: f64) -> Result<Money, Refusal>
     ensures { money_outcome result ≡ at_the_money book
-        strike_axis.now expiry_axis.now grid.now strikes expiries expiry }
+        surface.now.strike_axis.now surface.now.expiry_axis.now surface.now.grid.now surface.now.strikes surface.now.expiries expiry }
 {
-    if verdicts::is_broken(book) {
-        return AtTheMoney::Refused { number: 2 };
-    }
-    let strike = readings::nearest_strike(strike_axis, strikes, book.spot);
-    let read = readings::interpolate(
-        strike_axis,
-        expiry_axis,
-        grid,
-        strikes,
-        expiries,
-        strike,
-        expiry,
-    );
-    match read {
-        Reading::Value { volatility } => AtTheMoney::Value {
-            money: Money { strike, volatility },
-        },
-        Reading::Refused { number } => AtTheMoney::Refused { number },
-    }
+    check(!verdicts::is_broken(book), Refusal::OutOfBounds)?;
+    let strike = surface.nearest_strike(book.spot);
+    let volatility = surface.interpolate(strike, expiry)?;
+    Ok(Money { strike, volatility })
 }

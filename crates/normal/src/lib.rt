@@ -2,136 +2,157 @@
 #![tactic(auto)]
 
 ghost use Rattle.std.specs.Prelude.{◌≡◌, true, false};
-ghost use Rattle.floats.specs.Operators.{decimal, ◌≺◌};
+ghost use Rattle.floats.specs.Operators.{decimal, ◌⊕◌, ◌⊗◌, ◌⊘◌, ◌≺◌};
 ghost use Rattle.gauss.specs.Erfc.{series, terms, fraction, levels, erfc, erfc_from_zero};
 ghost use Rattle.gauss.specs.Normal.{pdf, cdf};
 ghost use Rattle.gauss.specs.Steps.{settled, upright, mirrored};
 ghost use Rattle.normal.specs.Pairs.{both};
 
-// Whether round n left the sum as it was for good: each later term is at most g, since w is at most 8 and each later divisor above 8.
-fn settled(n: u32, w: f64, g: f64, sum: f64, next: f64) -> bool
-    ensures { result ≡ settled n w g sum next }
-{
-    (next == sum) & (0.0 < sum) & (0.0 < g) & (g <= 1.0) & (0.0 < w) & (w <= 8.0) & (3 <= n)
-}
+use std::f64::consts::{FRAC_2_SQRT_PI, SQRT_2};
 
-// Two values of one function.
-#[derive(Drop)]
+// Two values, or what one function makes of them.
+#[derive(Clone, Copy)]
 pub struct Pair {
     pub first: f64,
     pub second: f64,
 }
 
+impl Pair {
+    fn new(first: f64, second: f64) -> Pair
+        ensures { result ≡ record { first = first; second = second } }
+    {
+        Pair { first, second }
+    }
+
+    // What f makes of each.
+    fn map<F: Fn(f64) -> f64>(self, f: F) -> Pair
+        requires first { F.pre f self.first }
+        requires second { F.pre f self.second }
+        ensures first { F.post f self.first result.first }
+        ensures second { F.post f self.second result.second }
+    {
+        Pair::new(f(self.first), f(self.second))
+    }
+}
+
+// A series for erfc: the factor w = (2 * v) * v of its terms, the last term, and the sum.
+#[derive(Clone, Copy)]
+struct Series {
+    w: f64,
+    g: f64,
+    sum: f64,
+}
+
+impl Series {
+    // No term but v itself.
+    fn new(v: f64) -> Series
+        ensures { result ≡ record { w = decimal 2 1 ⊗ v ⊗ v; g = v; sum = v } }
+    {
+        Series {
+            w: (2.0 * v) * v,
+            g: v,
+            sum: v,
+        }
+    }
+
+    // One more term, whose divisor is d.
+    fn step(self, d: f64) -> Series
+        ensures { result ≡ record { w = self.w; g = self.g ⊗ self.w ⊘ d; sum = self.sum ⊕ self.g ⊗ self.w ⊘ d } }
+    {
+        let g = (self.g * self.w) / d;
+        Series {
+            w: self.w,
+            g,
+            sum: self.sum + g,
+        }
+    }
+
+    // Whether round n left the sum as it was for good: each later term is at most g, since w is at most 8 and each later divisor above 8.
+    fn is_settled(self, n: u32, before: f64) -> bool
+        ensures { result ≡ settled n self.w self.g before self.sum }
+    {
+        self.sum == before
+            && 0.0 < before
+            && 0.0 < self.g
+            && self.g <= 1.0
+            && 0.0 < self.w
+            && self.w <= 8.0
+            && 3 <= n
+    }
+}
+
 // The sums of two series after their 40 rounds, in one loop: neither waits for the other's divisions.
-fn series_pair(x: f64, y: f64) -> Pair
-    ensures { result ≡ both (λ v. (series v terms).sum) x y }
+fn series_pair(v: Pair) -> Pair
+    ensures { result ≡ both (λ v. (series v terms).sum) v.first v.second }
 {
-    let u = (2.0 * x) * x;
-    let w = (2.0 * y) * y;
-    let mut g = x;
-    let mut h = y;
-    let mut a = x;
-    let mut b = y;
-    let mut k: u32 = 0;
-    while k < 40 {
+    let mut a = Series::new(v.first);
+    let mut b = Series::new(v.second);
+    for k in 0..40u32 {
         let d = (2 * k + 3) as f64;
-        g = (g * u) / d;
-        h = (h * w) / d;
-        let next_a = a + g;
-        let next_b = b + h;
-        if settled(k, u, g, a, next_a) & settled(k, w, h, b, next_b) {
-            return Pair {
-                first: next_a,
-                second: next_b,
-            };
+        let next_a = a.step(d);
+        let next_b = b.step(d);
+        if next_a.is_settled(k, a.sum) && next_b.is_settled(k, b.sum) {
+            return Pair::new(next_a.sum, next_b.sum);
         }
         a = next_a;
         b = next_b;
-        k += 1;
     }
-    Pair {
-        first: a,
-        second: b,
-    }
+    Pair::new(a.sum, b.sum)
 }
 
 // c of two fractions after its 60 rounds, in one loop.
-fn fraction_pair(x: f64, y: f64) -> Pair
-    ensures { result ≡ both (λ v. fraction v levels) x y }
+fn fraction_pair(v: Pair) -> Pair
+    ensures { result ≡ both (λ v. fraction v levels) v.first v.second }
 {
-    let mut c = x;
-    let mut d = y;
-    let mut k: u32 = 0;
-    while k < 60 {
-        let half = ((60 - k) as f64) / 2.0;
-        c = x + half / c;
-        d = y + half / d;
-        k += 1;
+    let mut c = v.first;
+    let mut d = v.second;
+    for j in (1..=60u32).rev() {
+        let half = (j as f64) / 2.0;
+        c = v.first + half / c;
+        d = v.second + half / d;
     }
-    Pair {
-        first: c,
-        second: d,
-    }
+    Pair::new(c, d)
 }
 
 // erfc of two values under 2, by the series.
-fn near_pair(x: f64, y: f64) -> Pair
-    requires { (x ≺ decimal 2 1 ≡ true) × (y ≺ decimal 2 1 ≡ true) }
-    ensures { result ≡ both erfc_from_zero x y }
+fn near_pair(v: Pair) -> Pair
+    requires { (v.first ≺ decimal 2 1 ≡ true) × (v.second ≺ decimal 2 1 ≡ true) }
+    ensures { result ≡ both erfc_from_zero v.first v.second }
 {
-    let e = 1.1283791670955126 * exponential::exp(-(x * x));
-    let f = 1.1283791670955126 * exponential::exp(-(y * y));
-    let s = series_pair(x, y);
-    Pair {
-        first: 1.0 - e * s.first,
-        second: 1.0 - f * s.second,
-    }
+    let e = v.map(|x| FRAC_2_SQRT_PI * exponential::exp(-(x * x)));
+    let s = series_pair(v);
+    Pair::new(1.0 - e.first * s.first, 1.0 - e.second * s.second)
 }
 
 // erfc of two values from 2 on, by the fraction. Where both numerators are 0 so are both quotients, and no fraction is wanted.
-fn far_pair(x: f64, y: f64) -> Pair
-    requires { (x ≺ decimal 2 1 ≡ false) × (y ≺ decimal 2 1 ≡ false) }
-    ensures { result ≡ both erfc_from_zero x y }
+fn far_pair(v: Pair) -> Pair
+    requires { (v.first ≺ decimal 2 1 ≡ false) × (v.second ≺ decimal 2 1 ≡ false) }
+    ensures { result ≡ both erfc_from_zero v.first v.second }
 {
-    let e = exponential::exp(-(x * x)) * 0.5641895835477563;
-    let f = exponential::exp(-(y * y)) * 0.5641895835477563;
-    if (e == 0.0) & (0.0 < x) & (f == 0.0) & (0.0 < y) {
-        return Pair {
-            first: e,
-            second: f,
-        };
+    let e = v.map(|x| exponential::exp(-(x * x)) * 0.5641895835477563);
+    if e.first == 0.0 && 0.0 < v.first && e.second == 0.0 && 0.0 < v.second {
+        return e;
     }
-    let c = fraction_pair(x, y);
-    Pair {
-        first: e / c.first,
-        second: f / c.second,
-    }
+    let c = fraction_pair(v);
+    Pair::new(e.first / c.first, e.second / c.second)
 }
 
 // erfc of two values not below 0: in one loop where both stand on one side of 2, else each beside itself.
-fn erfc_from_zero_pair(x: f64, y: f64) -> Pair
-    ensures { result ≡ both erfc_from_zero x y }
+fn erfc_from_zero_pair(v: Pair) -> Pair
+    ensures { result ≡ both erfc_from_zero v.first v.second }
 {
-    if x < 2.0 {
-        if y < 2.0 {
-            return near_pair(x, y);
-        }
-        let s = near_pair(x, x);
-        let t = far_pair(y, y);
-        return Pair {
-            first: s.first,
-            second: t.second,
-        };
+    match (v.first < 2.0, v.second < 2.0) {
+        (true, true) => near_pair(v),
+        (false, false) => far_pair(v),
+        (true, false) => Pair::new(
+            near_pair(Pair::new(v.first, v.first)).first,
+            far_pair(Pair::new(v.second, v.second)).second,
+        ),
+        (false, true) => Pair::new(
+            far_pair(Pair::new(v.first, v.first)).first,
+            near_pair(Pair::new(v.second, v.second)).second,
+        ),
     }
-    if y < 2.0 {
-        let s = far_pair(x, x);
-        let t = near_pair(y, y);
-        return Pair {
-            first: s.first,
-            second: t.second,
-        };
-    }
-    far_pair(x, y)
 }
 
 // v or its mirror image, whichever is not below 0.
@@ -149,22 +170,18 @@ fn mirrored(v: f64, e: f64) -> f64
 }
 
 // erfc of two values, each from that of its upright value.
-fn erfc_pair(x: f64, y: f64) -> Pair
-    ensures { result ≡ both erfc x y }
+fn erfc_pair(v: Pair) -> Pair
+    ensures { result ≡ both erfc v.first v.second }
 {
-    let r = erfc_from_zero_pair(upright(x), upright(y));
-    Pair {
-        first: mirrored(x, r.first),
-        second: mirrored(y, r.second),
-    }
+    let r = erfc_from_zero_pair(v.map(upright));
+    Pair::new(mirrored(v.first, r.first), mirrored(v.second, r.second))
 }
 
 // One value is the pair of it and itself.
 pub fn erfc(v: f64) -> f64
     ensures { result ≡ erfc v }
 {
-    let r = erfc_pair(v, v);
-    r.first
+    erfc_pair(Pair::new(v, v)).first
 }
 
 // The standard normal density.
@@ -178,17 +195,13 @@ pub fn pdf(x: f64) -> f64
 pub fn cdf_pair(x: f64, y: f64) -> Pair
     ensures { result ≡ both cdf x y }
 {
-    let r = erfc_pair(-x / 1.4142135623730951, -y / 1.4142135623730951);
-    Pair {
-        first: 0.5 * r.first,
-        second: 0.5 * r.second,
-    }
+    let v = Pair::new(x, y);
+    erfc_pair(v.map(|x| -x / SQRT_2)).map(|e| 0.5 * e)
 }
 
 // The same of one value: the pair of it and itself.
 pub fn cdf(x: f64) -> f64
     ensures { result ≡ cdf x }
 {
-    let r = cdf_pair(x, x);
-    r.first
+    cdf_pair(x, x).first
 }

@@ -1,5 +1,5 @@
 -- A blank strike of a reading is not answered by the expiry's number. Assumes nothing.
-use Rattle.std.specs.Prelude.{if◌then◌else◌}
+use Rattle.std.specs.Prelude.{Some, if◌then◌else◌}
 use Prim.Native.Nat.{ℕ}
 use mathlib.Core.Path.{◌≡◌, refl, sym, subst}
 use mathlib.Core.Bool.{Bool, true, false, cond, not}
@@ -14,7 +14,8 @@ use Rattle.limits.specs.Ranges.{within}
 use Rattle.limits.specs.Checks.{first, none}
 use Rattle.limits.specs.Outcome.{Outcome, done, refused, answered}
 use Rattle.grid.specs.Readings.{inside, read_refusal, reading}
-use Rattle.chart.specs.Build.{Lengths, refusal}
+use Rattle.chart.specs.Build.{refusal}
+use Rattle.chart.specs.declared.Lengths.{Lengths}
 use Rattle.ledger.specs.Book.{Columns}
 use Rattle.ledger.specs.Build.{Buffers, build_refusal, build_outcome, buffers_after}
 use Rattle.ledger.specs.Claim.{Ledger}
@@ -87,6 +88,6 @@ answers_other l a expiry e =
     subst (λ (z : Asked). (answers l z).number ≡ 20 → ⊥) (sym e)
     (said_other l (read_of s nan expiry o) (read_of_other s expiry o (build_other l.book l.columns blank)))
 
-pub blank_strike : (l : Ledger) (expiry : Float) → (hears l (Read nan expiry)).number ≡ 20 → ⊥
+pub blank_strike : (l : Ledger) (expiry : Float) → (hears l (Some (Read nan expiry))).number ≡ 20 → ⊥
 unfolding hears asked_by
 blank_strike l expiry = answers_other l (asked_by (Read nan expiry)) expiry refl

@@ -1,4 +1,5 @@
 -- The claims of specs/Claims.antt. Assumes nothing.
+use Rattle.std.specs.Prelude.{Some}
 use mathlib.Core.Path.{◌≡◌, refl, ap, ◌∙◌}
 use mathlib.Core.List.{List, [], ◌∷◌, map}
 use borrow.Author.Tests.{eq-eqb, ne_eqb}
@@ -6,7 +7,8 @@ use lib.Ieee.{Float}
 use Rattle.limits.specs.Checks.{none}
 use Rattle.limits.specs.Outcome.{Outcome, done, refused, answered}
 use Rattle.blackscholes.specs.declared.OptionType.TheVariants as OptionType
-use Rattle.ledger.specs.Model.{Opening, bsm}
+use Rattle.ledger.specs.Model.{bsm}
+use Rattle.ledger.specs.declared.Opening.{Opening}
 use Rattle.ledger.specs.declared.Offer.{Offer}
 use Rattle.ledger.specs.declared.Terms.{Terms}
 use Rattle.ledger.specs.declared.Terms.TheVariants.{Volatility, Price}
@@ -28,34 +30,34 @@ unfolding said
 said_book l value (done x) = refl
 said_book l value (refused number x) = refl
 
-read_only : (l : Ledger) (strike expiry : Float) → (hears l (Read strike expiry)).book ≡ l
+read_only : (l : Ledger) (strike expiry : Float) → (hears l (Some (Read strike expiry))).book ≡ l
 unfolding hears asked_by answers reads
 read_only l strike expiry =
     said_book l (λ (x : Float). x) (read_of (buffers_after l.book l.columns blank) strike expiry (build_outcome l.book l.columns blank))
 
-shut : (l : Ledger) (o : Opening) → (open_refusal o ≡ none → ⊥) → (hears l (Open o.spot o.rate)).book ≡ ledger zero_book l.columns
+shut : (l : Ledger) (o : Opening) → (open_refusal o ≡ none → ⊥) → (hears l (Some (Open o.spot o.rate))).book ≡ ledger zero_book l.columns
 unfolding hears asked_by answers opens opened answered
 shut l o n = said_book _ _ (opened o) ∙ rw (ne_eqb (open_refusal o) none n)
 
-accepted : (l : Ledger) (o : Opening) → open_refusal o ≡ none → (hears l (Open o.spot o.rate)).book ≡ ledger (fresh o) l.columns
+accepted : (l : Ledger) (o : Opening) → open_refusal o ≡ none → (hears l (Some (Open o.spot o.rate))).book ≡ ledger (fresh o) l.columns
 unfolding hears asked_by answers opens opened answered
 accepted l o e = said_book _ _ (opened o) ∙ rw (eq-eqb (open_refusal o) none e)
 
 line_of : (l : Ledger) (strike expiry : Float) (terms : Terms)
-    → hears l (line_of_terms strike expiry terms) ≡ offers l (record { strike = strike; expiry = expiry; terms = terms })
+    → hears l (Some (line_of_terms strike expiry terms)) ≡ offers l (record { strike = strike; expiry = expiry; terms = terms })
 unfolding hears asked_by answers
 line_of l strike expiry (Volatility v) = refl
 line_of l strike expiry (Price OptionType.Call price) = refl
 line_of l strike expiry (Price OptionType.Put price) = refl
 
-one : (l : Ledger) (o : Offer) → (hears l (line_of_offer o)).book ≡ hear bsm l o
+one : (l : Ledger) (o : Offer) → (hears l (Some (line_of_offer o))).book ≡ hear bsm l o
 unfolding offers
 one l o = ap (λ (h : Told Ledger). h.book) (line_of l o.strike o.expiry o.terms) ∙ said_book _ _ (reply bsm l o)
 
-tray : (l : Ledger) (os : List Offer) → book_after hears l (map line_of_offer os) ≡ after (hear bsm) l os
+tray : (l : Ledger) (os : List Offer) → book_after hears l (map (λ (o : Offer). Some (line_of_offer o)) os) ≡ after (hear bsm) l os
 unfolding book_after after
 tray l [] = refl
-tray l (o ∷ os) = ap (λ (z : Ledger). book_after hears z (map line_of_offer os)) (one l o) ∙ tray (hear bsm l o) os
+tray l (o ∷ os) = ap (λ (z : Ledger). book_after hears z (map (λ (o : Offer). Some (line_of_offer o)) os)) (one l o) ∙ tray (hear bsm l o) os
 
 pub program : Program
 unfolding hears asked_by answers

@@ -1,4 +1,5 @@
 -- The moves of the program: the laws of a session for this book, and the line that is held. Assumes nothing.
+use Rattle.std.specs.Prelude.{Option}
 use mathlib.Core.Path.{◌≡◌, refl, sym, ap, ◌∙◌}
 use mathlib.Core.List.{List, [], ◌∷◌}
 use Prim.Native.Nat.{ℕ, ◌+◌, ◌*◌, ◌≤◌, ◌<◌}
@@ -9,7 +10,6 @@ use lib.Seq.{paste, drop-drop}
 use Rattle.floats.proofs.Tests.{split}
 use Rattle.ledger.specs.Book.{Columns}
 use Rattle.ledger.specs.Claim.{Ledger}
-use Rattle.ledger.proofs.Lengths.{SameLengths, at_first, and_then}
 use Rattle.hexlines.specs.Hex.{answer_line}
 use Rattle.hexlines.specs.Frames.{frame_of}
 use Rattle.hexlines.specs.Lines.{held, no_line, pushed, cap, through, line_in, taken, feed_in, feeds}
@@ -17,26 +17,23 @@ use Rattle.hexlines.specs.Session.{Session, feed, finish}
 use Rattle.hexlines.specs.Moves.{Place, session_of, Moved}
 use Rattle.hexlines.specs.declared.Frame.{Frame}
 use Rattle.hexlines.specs.declared.Line.{Line}
-use Rattle.hexlines.proofs.Moves.{moved_ended, moved_none, moved_last, Going, going_start, with_line, going_line, going_rest}
-use Rattle.protocol.specs.Hear.{ledger, asked_by, answers, hears, heard_of}
+use Rattle.hexlines.specs.declared.Taken.{Taken}
+use Rattle.hexlines.proofs.Moves.{moved_ended, moved_none, moved_last, Going, with_line, going_line, going_rest}
+use Rattle.protocol.specs.Hear.{ledger, hears, heard_of}
 use Rattle.protocol.specs.Calls.{line_step, line_after}
 use Rattle.protocol.specs.Moves.{LineEnded}
-use Rattle.protocol.specs.declared.Asked.{Asked}
 use Rattle.protocol.specs.declared.Said.{Said}
 
 -- ---- a line
 
-pub line_ended : (p : Place Ledger) (f : Frame) (a : Asked) (r : Said) (c : Columns) (t out : List ℕ) (line : Line) → f ≡ frame_of (held p.line)
-    → a ≡ asked_by f →
-    heard_of r c ≡ answers p.book a → t ≡ answer_line r.number r.value → out ≡ paste p.out p.at t 19 → line ≡ no_line
+pub line_ended : (p : Place Ledger) (f : Option Frame) (r : Said) (c : Columns) (t out : List ℕ) (line : Line) → f ≡ frame_of (held p.line)
+    → heard_of r c ≡ hears p.book f → t ≡ answer_line (heard_of r c).number (heard_of r c).value → out ≡ paste p.out p.at t 19 → line ≡ no_line
     → p.at + 19 ≤ length p.out →
     LineEnded p (record { book = ledger r.book c; line = line; at = p.at + 19; out = out })
-unfolding hears
-line_ended p f a r c t out line e q h w o n room =
+line_ended p f r c t out line e h w o n room =
     rw n
     (record {
-      moved = moved_ended hears p (heard_of r c) out (h ∙ ap (answers p.book) (q ∙ ap asked_by e))
-          (o ∙ ap (λ (z : List ℕ). paste p.out p.at z 19) w) room;
+      moved = moved_ended hears p (heard_of r c) out (h ∙ ap (hears p.book) e) (o ∙ ap (λ (z : List ℕ). paste p.out p.at z 19) w) room;
       held = refl;
     })
 
@@ -67,42 +64,31 @@ after_rest (c ∷ cs) l h =
 pub record Hearing (p : Place Ledger) (chunk : List ℕ) (t : Place Ledger) (i n : ℕ) : Type 0 where
   pub going : Going hears p chunk t i n
   pub held : line_after t.line (drop i chunk) ≡ line_after p.line chunk
-  pub lengths : SameLengths p.book.columns t.book.columns
 
-pub hearing_start : (p : Place Ledger) (chunk : List ℕ) → p.at ≤ length p.out → length p.line.bytes ≡ cap → Hearing p chunk p 0 0
-hearing_start p chunk h k = record { going = going_start hears p chunk h k; held = refl; lengths = at_first p.book.columns }
-
--- a line is left where fewer were heard than the chunk ends, and there is room for its answer
-pub to_hear : (p t : Place Ledger) (chunk : List ℕ) (i n : ℕ) → n < feeds chunk → Hearing p chunk t i n → 0 < feeds (drop i chunk)
-to_hear p t chunk i n h g = omega (arith, g.going.left)
-
-pub room_for : (p t : Place Ledger) (chunk : List ℕ) (i n : ℕ) → n < feeds chunk → p.at + 19 * feeds chunk ≤ length p.out → Hearing p chunk t i n
-    → t.at + 19 ≤ length t.out
-room_for p t chunk i n h room g = omega (arith, g.going.counted, g.going.size)
-
-pub hearing_line : (p t r : Place Ledger) (chunk : List ℕ) (i n : ℕ) → n < feeds chunk → Hearing p chunk t i n →
-    LineEnded (with_line hears t (taken t.line chunk i).line) r → SameLengths t.book.columns r.book.columns → Hearing p chunk r
-    (taken t.line chunk i).next (n + 1)
+-- x is what is taken of the chunk next
+pub hearing_line : (p t r : Place Ledger) (chunk : List ℕ) (i n : ℕ) (x : Taken) → x ≡ taken t.line chunk i → n < feeds chunk → Hearing p chunk t i n →
+    LineEnded (with_line hears t x.line) r → Hearing p chunk r x.next (n + 1)
 unfolding taken
-hearing_line p t r chunk i n h g e s =
+hearing_line p t r chunk i n x e h g ended =
     let cs = drop i chunk in
-    let some = to_hear p t chunk i n h g in
-    record {
-      going = going_line hears p t r chunk i n some g.going e.moved e.held;
-      held = rw (e.held, ← drop-drop (through cs) i chunk) (after_line cs t.line some ∙ g.held);
-      lengths = and_then g.lengths s;
-    }
+    let some : 0 < feeds cs = omega (arith, g.going.left) in
+    let last : LineEnded (with_line hears t (taken t.line chunk i).line) r = rw e at ended in
+    rw e
+    (record {
+      going = going_line hears p t r chunk i n some g.going last.moved last.held;
+      held = rw (last.held, ← drop-drop (through cs) i chunk) (after_line cs t.line some ∙ g.held);
+    })
 
 pub record Goes (to : Session Ledger) (line : Line) (p r : Place Ledger) : Type 0 where
   pub moved : Moved to p r
   pub held : r.line ≡ line
 
-pub hearing_rest : (p t : Place Ledger) (chunk : List ℕ) (i n : ℕ) → feeds chunk ≤ n → Hearing p chunk t i n →
-    Goes (feed hears (session_of p) chunk) (line_after p.line chunk) p (with_line hears t (taken t.line chunk i).line)
+pub hearing_rest : (p t : Place Ledger) (chunk : List ℕ) (i n : ℕ) (x : Taken) → x ≡ taken t.line chunk i → feeds chunk ≤ n → Hearing p chunk t i n →
+    Goes (feed hears (session_of p) chunk) (line_after p.line chunk) p (with_line hears t x.line)
 unfolding taken
-hearing_rest p t chunk i n h g =
+hearing_rest p t chunk i n x e h g =
     let none : feeds (drop i chunk) ≡ 0 = omega (arith, g.going.left) in
-    record { moved = going_rest hears p t chunk i n none g.going; held = after_rest (drop i chunk) t.line none ∙ g.held }
+    rw e (record { moved = going_rest hears p t chunk i n none g.going; held = after_rest (drop i chunk) t.line none ∙ g.held })
 
 -- ---- the end of the input
 

@@ -1,6 +1,5 @@
 pub mod Lengths
 pub mod Going
-pub mod Rooms
 pub mod Numbers
 pub mod Blank
 pub mod Programs

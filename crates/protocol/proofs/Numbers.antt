@@ -1,5 +1,5 @@
 -- The numbers that frames are answered with. Assumes nothing.
-use Rattle.std.specs.Prelude.{if◌then◌else◌}
+use Rattle.std.specs.Prelude.{Option, Some, None, if◌then◌else◌}
 use Prim.Native.Nat.{ℕ}
 use mathlib.Core.Path.{◌≡◌, refl}
 use mathlib.Core.Bool.{Bool, true, not, ◌&&◌, cond}
@@ -17,9 +17,11 @@ use Rattle.brent.specs.Run.{run_with}
 use Rattle.brent.specs.Claim.{Given, five, eleven, twelve, thirteen}
 use Rattle.brent.proofs.Theorem.{claim}
 use Rattle.grid.specs.Readings.{read_refusal, reading}
-use Rattle.chart.specs.Build.{Lengths, refusal}
+use Rattle.chart.specs.Build.{refusal}
+use Rattle.chart.specs.declared.Lengths.{Lengths}
 use Rattle.blackscholes.specs.declared.OptionType.{OptionType}
-use Rattle.ledger.specs.Model.{Opening, Model, bsm, prices_of}
+use Rattle.ledger.specs.Model.{Model, bsm, prices_of}
+use Rattle.ledger.specs.declared.Opening.{Opening}
 use Rattle.ledger.specs.Book.{Columns, is_short, open_refusal, opened, own_refusal, offer_refusal, end_of, answer_to, answer, offer_outcome}
 use Rattle.ledger.specs.declared.Offer.{Offer}
 use Rattle.ledger.specs.declared.Terms.{Terms}
@@ -133,11 +135,11 @@ reads_tabled l strike expiry =
 
 asked_tabled : (l : Ledger) (a : Asked) → Tabled (answers l a).number
 unfolding answers
-asked_tabled l (Asked.Open spot rate) = opens_tabled l (record { spot = spot; rate = rate })
+asked_tabled l (Asked.Open opening) = opens_tabled l opening
 asked_tabled l (Asked.Quote offer) = offers_tabled l offer
 asked_tabled l (Asked.Read strike expiry) = reads_tabled l strike expiry
-asked_tabled l Asked.Nothing = is_tabled (answers l Asked.Nothing).number refl
 
-pub tabled : (l : Ledger) (f : Frame) → Tabled (hears l f).number
+pub tabled : (l : Ledger) (f : Option Frame) → Tabled (hears l f).number
 unfolding hears
-tabled l f = asked_tabled l (asked_by f)
+tabled l (Some f) = asked_tabled l (asked_by f)
+tabled l None = is_tabled (hears l None).number refl

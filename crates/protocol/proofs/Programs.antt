@@ -1,4 +1,5 @@
 -- The program's turns one after the other are a run of a session. Assumes nothing.
+use Rattle.std.specs.Prelude.{Err}
 use mathlib.Core.Path.{◌≡◌, refl, sym, ap, subst, ◌∙◌}
 use mathlib.Core.Bool.{Bool, cond}
 use mathlib.Core.List.{List, [], ◌∷◌, ◌++◌, append-nil, append_assoc}
@@ -21,9 +22,7 @@ use Rattle.protocol.specs.Calls.{fresh, session, line_step, line_after, Left, le
 use Rattle.protocol.specs.Turns.{count_of, HadRoom, text_of, Held, holds, keeps, held_after, written}
 use Rattle.protocol.specs.Claims.{Reads}
 use Rattle.protocol.specs.declared.State.{State}
-use Rattle.protocol.specs.declared.Text.TheVariants.{Short}
-use Rattle.protocol.proofs.Lengths.{fed_size}
-use Rattle.protocol.proofs.Rooms.{with_room}
+use Rattle.protocol.proofs.Lengths.{fed_size, with_room}
 
 -- ---- the text of a call
 
@@ -39,7 +38,7 @@ counts_within : (n : ℕ) (s : State) (c : Columns) (out : List ℕ) (l : Ledger
 unfolding if_room
 counts_within n s c out l line text =
     by (λ (r : Left). count_of r.fed.text ≤ length r.out)
-    (λ (b : Bool). cond b (left (record { state = s; text = Short n }) c out) (wrote l line text out)) (ltb (length out) (19 * n))
+    (λ (b : Bool). cond b (left (record { state = s; text = Err (record { lines = n }) }) c out) (wrote l line text out)) (ltb (length out) (19 * n))
     (λ _. omega arith) (λ _. simp length-append (omega arith))
 
 fed_within : (s : State) (c : Columns) (chunk out : List ℕ) → count_of (fed s c chunk out).fed.text ≤ length (fed s c chunk out).out

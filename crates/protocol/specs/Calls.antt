@@ -1,5 +1,7 @@
 -- What the calls of this crate promise: the answer, the record, and every lent entry.
-use Rattle.std.specs.Prelude.{ℕ, ◌*◌, Bool, true, false, List, [], ◌∷◌, ◌++◌, eqb, ltb, length, drop, if◌then◌else◌}
+use Rattle.std.specs.Prelude.{ℕ, ◌*◌, Bool, true, false, List, [], ◌∷◌, ◌++◌, eqb, ltb, length, drop, Ok, Err, if◌then◌else◌}
+use Rattle.std.specs.declared.ops.ControlFlow.{ControlFlow}
+use Rattle.std.specs.declared.ops.ControlFlow.TheVariants.{Continue, Break}
 use Prim.Native.Char.{code}
 use Rattle.ledger.specs.Book.{Columns, zero_book}
 use Rattle.ledger.specs.Claim.{Ledger}
@@ -10,8 +12,6 @@ use Rattle.hexlines.specs.declared.Line.{Line}
 use Rattle.protocol.specs.Hear.{ledger, hears}
 use Rattle.protocol.specs.declared.State.{State}
 use Rattle.protocol.specs.declared.Fed.{Fed}
-use Rattle.protocol.specs.declared.Step.{Step}
-use Rattle.protocol.specs.declared.Text.TheVariants.{Written, Short}
 
 -- ---- a stream of lines, a chunk at a time
 
@@ -47,11 +47,11 @@ state b line = record { book = b; line = line }
 -- The text stands in the front of the buffer, and the rest of it is as it was.
 abbrev pub wrote : Ledger → Line → List ℕ → List ℕ → Left
 wrote l line text out =
-    left (record { state = state l.book line; text = Written (length text) }) l.columns (text ++ drop (length text) out)
+    left (record { state = state l.book line; text = Ok (length text) }) l.columns (text ++ drop (length text) out)
 
 -- The buffer must have room for the answers of n lines, 19 bytes each: else nothing is heard or written, and the answer says how many there are.
 unfoldable pub if_room : ℕ → State → Columns → List ℕ → Left → Left
-if_room n s c out x = if ltb (length out) (19 * n) then left (record { state = s; text = Short n }) c out else x
+if_room n s c out x = if ltb (length out) (19 * n) then left (record { state = s; text = Err (record { lines = n }) }) c out else x
 
 -- A chunk is heard.
 unfoldable pub fed : State → Columns → List ℕ → List ℕ → Left
@@ -74,8 +74,9 @@ pub record Turned : Type 0 where
   pub left : Left
   pub more : Bool
 
-abbrev pub turn_left : Step → Columns → List ℕ → Turned
-turn_left r c out = record { left = left r.fed c out; more = r.more }
+abbrev pub turn_left : ControlFlow Fed Fed → Columns → List ℕ → Turned
+turn_left (Continue fed) c out = record { left = left fed c out; more = true }
+turn_left (Break fed) c out = record { left = left fed c out; more = false }
 
 -- A read that gives nothing is the end of the input, and any other a chunk of it.
 unfoldable pub turned : State → Columns → List ℕ → List ℕ → Turned

@@ -1,8 +1,9 @@
 -- What is proved of these definitions beside the contracts of the code (proofs/Claims.antt).
-use Rattle.std.specs.Prelude.{ℕ, ◌*◌, ◌≤◌, ◌<◌, ◌≡◌, List, [], ◌∷◌, ◌++◌, map, Float, length}
+use Rattle.std.specs.Prelude.{ℕ, ◌*◌, ◌≤◌, ◌<◌, ◌≡◌, List, [], ◌∷◌, ◌++◌, map, Float, length, Option, Some, None}
 use Rattle.std.specs.Float.{nan}
 use Rattle.blackscholes.specs.declared.OptionType.TheVariants as OptionType
-use Rattle.ledger.specs.Model.{Opening, bsm}
+use Rattle.ledger.specs.Model.{bsm}
+use Rattle.ledger.specs.declared.Opening.{Opening}
 use Rattle.ledger.specs.declared.Offer.{Offer}
 use Rattle.ledger.specs.declared.Terms.{Terms}
 use Rattle.ledger.specs.declared.Terms.TheVariants.{Volatility, Price}
@@ -13,7 +14,7 @@ use Rattle.limits.specs.Checks.{none}
 use Rattle.hexlines.specs.Session.{book_after, output, joined}
 use Rattle.hexlines.specs.Claims.{Streamed}
 use Rattle.hexlines.specs.declared.Frame.{Frame}
-use Rattle.hexlines.specs.declared.Frame.TheVariants.{Open, Call, Put, Vol, Read, Bad}
+use Rattle.hexlines.specs.declared.Frame.TheVariants.{Open, Call, Put, Vol, Read}
 use Rattle.protocol.specs.Hear.{ledger, hears}
 use Rattle.protocol.specs.Calls.{fresh as noState, turned}
 use Rattle.protocol.specs.Turns.{count_of, HadRoom, Held, holds, held_after, written}
@@ -53,15 +54,15 @@ pub record Program : Type 0 where
   pub within : (s : State) (c : Columns) (part out : List ℕ) →
       count_of (turned s c part out).left.fed.text ≤ length (turned s c part out).left.out
   -- "Two decimal digits of answer" are enough: a number of the table. A line that cannot be used gets 21.
-  pub numbers : (l : Ledger) (f : Frame) → Tabled (hears l f).number
-  pub bad_21 : (l : Ledger) → (hears l Bad).number ≡ 21
+  pub numbers : (l : Ledger) (f : Option Frame) → Tabled (hears l f).number
+  pub bad_21 : (l : Ledger) → (hears l None).number ≡ 21
   -- 20 and 21 change neither record nor columns.
-  pub read_only : (l : Ledger) (strike expiry : Float) → (hears l (Read strike expiry)).book ≡ l
-  pub bad_only : (l : Ledger) → (hears l Bad).book ≡ l
+  pub read_only : (l : Ledger) (strike expiry : Float) → (hears l (Some (Read strike expiry))).book ≡ l
+  pub bad_only : (l : Ledger) → (hears l None).book ≡ l
   -- "20: strike, expiry": the strike comes first. A blank one is never answered by 20, which is the expiry's number and that of a gap.
-  pub blank_strike : (l : Ledger) (expiry : Float) → (hears l (Read nan expiry)).number ≡ 20 → ⊥
+  pub blank_strike : (l : Ledger) (expiry : Float) → (hears l (Some (Read nan expiry))).number ≡ 20 → ⊥
   -- A refused opening leaves the record of zeros; an accepted one a fresh book. The columns stay.
-  pub shut : (l : Ledger) (o : Opening) → (open_refusal o ≡ none → ⊥) → (hears l (Open o.spot o.rate)).book ≡ ledger zero_book l.columns
-  pub opened : (l : Ledger) (o : Opening) → open_refusal o ≡ none → (hears l (Open o.spot o.rate)).book ≡ ledger (fresh o) l.columns
+  pub shut : (l : Ledger) (o : Opening) → (open_refusal o ≡ none → ⊥) → (hears l (Some (Open o.spot o.rate))).book ≡ ledger zero_book l.columns
+  pub opened : (l : Ledger) (o : Opening) → open_refusal o ≡ none → (hears l (Some (Open o.spot o.rate))).book ≡ ledger (fresh o) l.columns
   -- Lines of offers are heard as demand 3's list is: its claim holds of the record and the columns that the program holds after them.
-  pub tray : (l : Ledger) (os : List Offer) → book_after hears l (map line_of_offer os) ≡ after (hear bsm) l os
+  pub tray : (l : Ledger) (os : List Offer) → book_after hears l (map (λ o. Some (line_of_offer o)) os) ≡ after (hear bsm) l os

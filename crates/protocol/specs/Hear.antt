@@ -1,13 +1,15 @@
 -- Document 01, 'Hexadecimal lines': what the quote book answers to each frame, and what the record and the columns are after it.
-use Rattle.std.specs.Prelude.{replicate, Float}
+use Rattle.std.specs.Prelude.{replicate, Float, Option, Some, None}
 use Rattle.floats.specs.Operators.{decimal}
 use Rattle.limits.specs.Checks.{none}
-use Rattle.limits.specs.Outcome.{Outcome, done, refused, values_of}
+use Rattle.limits.specs.Outcome.{Outcome, done, refused, number_of, values_of}
+use Rattle.limits.specs.Refusals.{outcome_with}
 use Rattle.brent.specs.declared.Solution.{Solution}
 use Rattle.blackscholes.specs.declared.OptionType.TheVariants as OptionType
 use Rattle.grid.specs.Readings.{reading}
-use Rattle.chart.specs.Build.{Lengths}
-use Rattle.ledger.specs.Model.{Opening, bsm, volatility, priced}
+use Rattle.chart.specs.declared.Lengths.{Lengths}
+use Rattle.ledger.specs.Model.{bsm, volatility, priced}
+use Rattle.ledger.specs.declared.Opening.{Opening}
 use Rattle.ledger.specs.Book.{Columns, opened}
 use Rattle.ledger.specs.Build.{Buffers, buffers_of, build_outcome, buffers_after}
 use Rattle.ledger.specs.Claim.{Ledger, hear, reply}
@@ -15,7 +17,7 @@ use Rattle.ledger.specs.declared.Book.{Book}
 use Rattle.ledger.specs.declared.Offer.{Offer}
 use Rattle.hexlines.specs.Session.{Told}
 use Rattle.hexlines.specs.declared.Frame.{Frame}
-use Rattle.hexlines.specs.declared.Frame.TheVariants.{Open, Call, Put, Vol, Read, Bad}
+use Rattle.hexlines.specs.declared.Frame.TheVariants.{Open, Call, Put, Vol, Read}
 use Rattle.protocol.specs.declared.Asked.{Asked}
 use Rattle.protocol.specs.declared.Said.{Said}
 
@@ -58,26 +60,25 @@ reads l strike expiry =
 -- ---- any frame
 -- What it asks for: an offer of any kind is one.
 unfoldable pub asked_by : Frame → Asked
-asked_by (Open spot rate) = Asked.Open spot rate
+asked_by (Open spot rate) = Asked.Open (record { spot = spot; rate = rate })
 asked_by (Call strike expiry price) = Asked.Quote (priced OptionType.Call strike expiry price)
 asked_by (Put strike expiry price) = Asked.Quote (priced OptionType.Put strike expiry price)
 asked_by (Vol strike expiry v) = Asked.Quote (volatility strike expiry v)
 asked_by (Read strike expiry) = Asked.Read strike expiry
-asked_by Bad = Asked.Nothing
 
--- 21, "It comes before all others": nothing changes.
 unfoldable pub answers : Ledger → Asked → Told Ledger
 unfolding said opens offers reads
-answers l (Asked.Open spot rate) = opens l (record { spot = spot; rate = rate })
+answers l (Asked.Open opening) = opens l opening
 answers l (Asked.Quote offer) = offers l offer
 answers l (Asked.Read strike expiry) = reads l strike expiry
-answers l Asked.Nothing = record { book = l; number = 21; value = decimal 0 1 }
 
-unfoldable pub hears : Ledger → Frame → Told Ledger
+-- A line that is no frame: 21, "It comes before all others", and nothing changes.
+unfoldable pub hears : Ledger → Option Frame → Told Ledger
 unfolding asked_by answers
-hears l f = answers l (asked_by f)
+hears l (Some f) = answers l (asked_by f)
+hears l None = record { book = l; number = 21; value = decimal 0 1 }
 
 -- ---- what a call answers
 -- What was said, with the columns after it.
 abbrev pub heard_of : Said → Columns → Told Ledger
-heard_of r c = record { book = ledger r.book c; number = r.number; value = r.value }
+heard_of r c = let o = outcome_with (decimal 0 1) r.answer in record { book = ledger r.book c; number = number_of o; value = values_of o }

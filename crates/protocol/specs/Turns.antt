@@ -1,20 +1,19 @@
 -- The program as a run of turns, one for each read: a turn gets the state, the columns and the buffer as the last one left them.
-use Rattle.std.specs.Prelude.{ℕ, List, [], ◌∷◌, ◌++◌, take, if◌then◌else◌}
+use Rattle.std.specs.Prelude.{ℕ, List, [], ◌∷◌, ◌++◌, take, Result, Ok, Err, if◌then◌else◌}
 use Rattle.ledger.specs.Book.{Columns}
 use Rattle.protocol.specs.Calls.{Left, Turned, turned}
 use Rattle.protocol.specs.declared.State.{State}
-use Rattle.protocol.specs.declared.Text.{Text}
-use Rattle.protocol.specs.declared.Text.TheVariants.{Written, Short}
+use Rattle.protocol.specs.declared.Short.{Short}
 
 -- The bytes that a call wrote.
-abbrev pub count_of : Text → ℕ
-count_of (Written count) = count
-count_of (Short n) = 0
+abbrev pub count_of : Result ℕ Short → ℕ
+count_of (Ok count) = count
+count_of (Err short) = 0
 
 -- The answers had room.
-abbrev pub HadRoom : Text → Type 0
-HadRoom (Written count) = Unit {0}
-HadRoom (Short n) = ⊥
+abbrev pub HadRoom : Result ℕ Short → Type 0
+HadRoom (Ok count) = Unit {0}
+HadRoom (Err short) = ⊥
 
 abbrev pub text_of : Left → List ℕ
 text_of r = take (count_of r.fed.text) r.out

@@ -3,23 +3,23 @@
 #![tactic(auto)]
 
 use hexlines::Line;
-use ledger::{Book, Offer};
+use ledger::{Book, Offer, Opening};
+use limits::Refusal;
+use std::ops::ControlFlow;
 
-// What a frame leads to: the record, the number of its answer (0 for done) and its value.
-#[derive(Drop)]
+// What a line leads to: the record, and its value or why there is none.
+#[derive(Clone, Copy)]
 pub struct Said {
     pub book: Book,
-    pub number: u64,
-    pub value: f64,
+    pub answer: Result<f64, Refusal>,
 }
 
 // What a frame asks of the book.
-#[derive(Drop)]
+#[derive(Clone, Copy)]
 pub enum Asked {
-    Open { spot: f64, rate: f64 },
+    Open { opening: Opening },
     Quote { offer: Offer },
     Read { strike: f64, expiry: f64 },
-    Nothing,
 }
 
 // What the program holds between two chunks of its input: the record, and the part of a line that came so far.
@@ -29,25 +29,18 @@ pub struct State {
     pub line: Line,
 }
 
-// What was written to a lent buffer.
-#[derive(Drop)]
-pub enum Text {
-    // so many bytes, in its front
-    Written { count: usize },
-    // nothing, nor was anything heard: there is no room for the answers of so many lines
-    Short { lines: usize },
+// Nothing was heard, nor written to the lent buffer: it has no room for the answers of so many lines.
+#[derive(Clone, Copy, Debug, PartialEq, Eq)]
+pub struct Short {
+    pub lines: usize,
 }
 
-// What a chunk leads to.
-#[derive(Drop)]
+// What a chunk leads to, and how many bytes were written to the front of the lent buffer.
+#[derive(Clone, Copy)]
 pub struct Fed {
     pub state: State,
-    pub text: Text,
+    pub text: Result<usize, Short>,
 }
 
-// What a turn of the program leads to, and whether it reads on.
-#[derive(Drop)]
-pub struct Step {
-    pub fed: Fed,
-    pub more: bool,
-}
+// What a turn of the program leads to: it reads on, or its input has ended.
+pub type Step = ControlFlow<Fed, Fed>;

@@ -3,642 +3,480 @@
 // says what a line holds.
 #![tactic(auto)]
 
-ghost use Rattle.std.specs.Prelude.{◌+◌, ◌*◌, ◌<◌, ◌≤◌};
+ghost use Rattle.std.specs.Prelude.{◌≤◌};
 
-use blackscholes::{Greeks, Implied, OptionParams, OptionType, Priced, Sensitivities};
-use brent::Solution;
-use chart::Built;
-use gaps::Filling;
-use grid::Reading;
+use admission::{Quotes, SurfaceBuffers};
+use blackscholes::{Greeks, OptionParams, OptionType};
+use brent::{Solution, Unsolved};
+use chart::Lengths;
+use frames::bits_of;
+use limits::Refusal;
+use outcomes::number_of;
+use readings::Surface;
+use vectors::{Tally, Words};
+
+const STDIN_FILENO: i32 = 0;
 
 const STDOUT_FILENO: i32 = 1;
 
 // ---- a line
 
-// The names of the kinds, six letters each; the last is that of none.
-const NAMES: [u8; 120] =
-    *b"sqrt  exp   ln    erfc  pdf   cdf   price greekssolve quote build strikeexpirycell  read  middlegap   fill  fillednone  ";
-
-fn name(kind: usize) -> [u8; 6]
-    requires { kind < 20 }
-{
-    let at = 6 * kind;
-    [
-        NAMES[at],
-        NAMES[at + 1],
-        NAMES[at + 2],
-        NAMES[at + 3],
-        NAMES[at + 4],
-        NAMES[at + 5],
-    ]
+// The kinds of lines, in the order of the totals.
+#[derive(Clone, Copy)]
+enum Kind {
+    Sqrt,
+    Exp,
+    Ln,
+    Erfc,
+    Pdf,
+    Cdf,
+    Price,
+    Greeks,
+    Solve,
+    Quote,
+    Build,
+    Strike,
+    Expiry,
+    Cell,
+    Read,
+    Middle,
+    Gap,
+    Fill,
+    Filled,
 }
 
-// Whether a line's first six letters are the name of a kind.
-fn is(head: &[u8; 6], kind: usize) -> bool
-    requires { kind < 20 }
-{
-    let n = name(kind);
-    let first = (head[0] == n[0]) & (head[1] == n[1]) & (head[2] == n[2]);
-    first & (head[3] == n[3]) & (head[4] == n[4]) & (head[5] == n[5])
-}
+impl Kind {
+    const ALL: [Kind; 19] = [
+        Kind::Sqrt,
+        Kind::Exp,
+        Kind::Ln,
+        Kind::Erfc,
+        Kind::Pdf,
+        Kind::Cdf,
+        Kind::Price,
+        Kind::Greeks,
+        Kind::Solve,
+        Kind::Quote,
+        Kind::Build,
+        Kind::Strike,
+        Kind::Expiry,
+        Kind::Cell,
+        Kind::Read,
+        Kind::Middle,
+        Kind::Gap,
+        Kind::Fill,
+        Kind::Filled,
+    ];
 
-// The kind of a line, 19 for none.
-fn kind_of(head: &[u8; 6]) -> usize
-    ensures { result ≤ 19 }
-{
-    let mut kind: usize = 0;
-    while kind < 19 {
-        if is(head, kind) {
-            return kind;
+    // The six bytes that a line of the kind begins with.
+    fn name(self) -> [u8; 6] {
+        match self {
+            Kind::Sqrt => *b"sqrt  ",
+            Kind::Exp => *b"exp   ",
+            Kind::Ln => *b"ln    ",
+            Kind::Erfc => *b"erfc  ",
+            Kind::Pdf => *b"pdf   ",
+            Kind::Cdf => *b"cdf   ",
+            Kind::Price => *b"price ",
+            Kind::Greeks => *b"greeks",
+            Kind::Solve => *b"solve ",
+            Kind::Quote => *b"quote ",
+            Kind::Build => *b"build ",
+            Kind::Strike => *b"strike",
+            Kind::Expiry => *b"expiry",
+            Kind::Cell => *b"cell  ",
+            Kind::Read => *b"read  ",
+            Kind::Middle => *b"middle",
+            Kind::Gap => *b"gap   ",
+            Kind::Fill => *b"fill  ",
+            Kind::Filled => *b"filled",
         }
-        kind += 1;
     }
-    19
+
+    // How many words follow.
+    fn width(self) -> usize
+        ensures { result ≤ 14 }
+    {
+        match self {
+            Kind::Greeks => 14,
+            Kind::Solve => 12,
+            Kind::Price => 8,
+            Kind::Read => 4,
+            Kind::Quote | Kind::Build | Kind::Cell | Kind::Middle | Kind::Fill => 3,
+            _ => 2,
+        }
+    }
 }
 
-// How many words a line of a kind has.
-fn width(kind: usize) -> usize
+// The kind of a line; none where it bears the name of no kind.
+fn kind_of(head: [u8; 6]) -> Option<Kind> {
+    Kind::ALL.iter().copied().find(|kind| kind.name() == head)
+}
+
+// Of a line of no kind two words are read.
+fn width_of(kind: Option<Kind>) -> usize
     ensures { result ≤ 14 }
 {
     match kind {
-        6 => 8,
-        7 => 14,
-        8 => 12,
-        14 => 4,
-        9 | 10 | 13 | 15 | 17 => 3,
-        _ => 2,
+        Some(kind) => kind.width(),
+        None => 2,
     }
 }
 
-// A hexadecimal digit in upper case; any other character counts as 0.
-fn digit(b: u8) -> u64 {
-    if b < 48 {
-        return 0;
-    }
-    if b <= 57 {
-        return (b - 48) as u64;
-    }
-    if b < 65 {
-        return 0;
-    }
-    if b <= 70 {
-        return (b - 55) as u64;
-    }
-    0
+// A line as it was read; its kind is none where it cannot be read.
+#[derive(Clone, Copy)]
+struct Line {
+    kind: Option<Kind>,
+    head: [u8; 6],
+    words: [u8; 240],
 }
 
-// The word at an index: after a space, 16 hexadecimal digits.
-fn word(line: &[u8; 240], at: usize) -> u64
-    requires { at < 14 }
-{
-    let from = 17 * at + 1;
-    let mut n: u64 = 0;
-    let mut i: usize = 0;
-    while i < 16 {
-        n = (n << 4) | digit(line[from + i]);
-        i += 1;
+// The next line; none where the list has ended.
+fn read_line() -> Option<Line> {
+    let mut head = [b' '; 6];
+    let mut words = [b' '; 240];
+    if io::read_full(STDIN_FILENO, &mut head) == 0 {
+        return None;
     }
-    n
+    let kind = kind_of(head);
+    let end = 17 * width_of(kind) + 1;
+    let got = io::read_full(STDIN_FILENO, &mut words[..end]);
+    let is_whole = got == end && words[end - 1] == b'\n';
+    Some(Line {
+        kind: if is_whole { kind } else { None },
+        head,
+        words,
+    })
 }
 
-// Every not-a-number pattern reads as not-a-number, and it is written as 7FF8000000000000.
-fn float_of(b: u64) -> f64 {
-    if b % 9223372036854775808 > 9218868437227405312 {
-        0.0 / 0.0
-    } else {
-        f64::from_bits(b)
-    }
-}
-
-fn bits_of(x: f64) -> u64 {
-    if x != x {
-        9221120237041090560
-    } else {
-        f64::to_bits(x)
-    }
-}
-
-fn float(line: &[u8; 240], at: usize) -> f64
-    requires { at < 14 }
-{
-    float_of(word(line, at))
-}
-
-// Whether the word at an index holds that number.
-fn holds(line: &[u8; 240], at: usize, x: f64) -> bool
-    requires { at < 14 }
-{
-    bits_of(x) == word(line, at)
+// Whether the words to come are those of an answer.
+fn answers(words: &mut Words<'_>, answer: &[u64]) -> bool {
+    answer.iter().all(|n| words.word() == *n)
 }
 
 // ---- functions and options
 
-fn value(kind: usize, x: f64) -> f64 {
-    if kind == 0 {
-        return root::sqrt(x);
-    }
-    if kind == 1 {
-        return exponential::exp(x);
-    }
-    if kind == 2 {
-        return exponential::ln(x);
-    }
-    if kind == 3 {
-        return normal::erfc(x);
-    }
-    if kind == 4 {
-        return normal::pdf(x);
-    }
-    normal::cdf(x)
+fn judge_function<F: Fn(f64) -> f64>(words: &mut Words<'_>, f: F) -> bool
+    requires { F.IsAlwaysCallable f }
+{
+    let value = f(words.float());
+    answers(words, &[bits_of(value)])
 }
 
-fn judge_function(kind: usize, line: &[u8; 240]) -> bool {
-    holds(line, 1, value(kind, float(line, 0)))
-}
-
-fn type_of(word: u64) -> OptionType {
-    if word == 0 {
+fn option_type(words: &mut Words<'_>) -> OptionType {
+    if words.word() == 0 {
         OptionType::Call
     } else {
         OptionType::Put
     }
 }
 
-// The option whose spot, strike, expiry and rate start at an index.
-fn option(line: &[u8; 240], from: usize, volatility: f64) -> OptionParams
-    requires { from < 3 }
-{
+// Spot, strike, expiry and rate of an option; its volatility is 0.
+fn option(words: &mut Words<'_>, option_type: OptionType) -> OptionParams {
     OptionParams {
-        spot: float(line, from),
-        strike: float(line, from + 1),
-        time_to_expiry: float(line, from + 2),
-        risk_free_rate: float(line, from + 3),
-        volatility,
-        option_type: type_of(word(line, 0)),
+        spot: words.float(),
+        strike: words.float(),
+        time_to_expiry: words.float(),
+        risk_free_rate: words.float(),
+        volatility: 0.0,
+        option_type,
     }
 }
 
-fn judge_price(line: &[u8; 240]) -> bool {
-    let answer = greeks::bsm_price(option(line, 1, float(line, 5)));
-    match answer {
-        Priced::Price { value } => (word(line, 6) == 0) & holds(line, 7, value),
-        Priced::Refused { number } => (word(line, 6) == number) & holds(line, 7, 0.0),
+// The option of a price or of greeks, with its volatility.
+fn priced_option(words: &mut Words<'_>) -> OptionParams {
+    let option_type = option_type(words);
+    let params = option(words, option_type);
+    OptionParams {
+        volatility: words.float(),
+        ..params
     }
 }
 
-fn holds_greeks(line: &[u8; 240], g: Greeks) -> bool {
-    let first = holds(line, 7, g.delta) & holds(line, 8, g.gamma) & holds(line, 9, g.theta);
-    let second = holds(line, 10, g.vega) & holds(line, 11, g.rho);
-    first & second & holds(line, 12, g.vanna) & holds(line, 13, g.volga)
+fn judge_price(words: &mut Words<'_>) -> bool {
+    let price = greeks::bsm_price(priced_option(words));
+    answers(words, &[number_of(price), bits_of(price.unwrap_or(0.0))])
 }
 
-fn no_greeks() -> Greeks {
-    Greeks {
-        delta: 0.0,
-        gamma: 0.0,
-        theta: 0.0,
-        vega: 0.0,
-        rho: 0.0,
-        vanna: 0.0,
-        volga: 0.0,
-    }
-}
+const NO_GREEKS: Greeks = Greeks {
+    delta: 0.0,
+    gamma: 0.0,
+    theta: 0.0,
+    vega: 0.0,
+    rho: 0.0,
+    vanna: 0.0,
+    volga: 0.0,
+};
 
-fn judge_greeks(line: &[u8; 240]) -> bool {
-    let answer = greeks::bsm_greeks(option(line, 1, float(line, 5)));
-    match answer {
-        Sensitivities::Found { greeks } => (word(line, 6) == 0) & holds_greeks(line, greeks),
-        Sensitivities::Refused { number } => (word(line, 6) == number)
-            & holds_greeks(line, no_greeks()),
-    }
+fn judge_greeks(words: &mut Words<'_>) -> bool {
+    let greeks = greeks::bsm_greeks(priced_option(words));
+    let g = greeks.unwrap_or(NO_GREEKS);
+    let answer = [
+        number_of(greeks),
+        bits_of(g.delta),
+        bits_of(g.gamma),
+        bits_of(g.theta),
+        bits_of(g.vega),
+        bits_of(g.rho),
+        bits_of(g.vanna),
+        bits_of(g.volga),
+    ];
+    answers(words, &answer)
 }
 
 // A number, four values and the evaluations.
-fn holds_answer(line: &[u8; 240], number: u64, x: Solution) -> bool {
-    let values = holds(line, 7, x.volatility)
-        & holds(line, 8, x.error)
-        & holds(line, 9, x.c)
-        & holds(line, 10, x.c_error);
-    values & (word(line, 6) == number) & (word(line, 11) == x.evaluations)
-}
-
-// The values beside a number.
-fn zeros(evaluations: u64) -> Solution {
-    Solution {
-        volatility: 0.0,
-        error: 0.0,
-        c: 0.0,
-        c_error: 0.0,
-        evaluations,
+fn solve_words(solved: Result<Solution, Unsolved>) -> [u64; 6] {
+    match solved {
+        Ok(x) => [
+            0,
+            bits_of(x.volatility),
+            bits_of(x.error),
+            bits_of(x.c),
+            bits_of(x.c_error),
+            x.evaluations,
+        ],
+        Err(x) => [u64::from(x.refusal), 0, 0, 0, 0, x.evaluations],
     }
 }
 
-fn judge_solve(line: &[u8; 240]) -> bool {
-    let answer = greeks::implied_volatility(float(line, 1), option(line, 2, 0.0));
-    match answer {
-        Implied::Found { solution } => holds_answer(line, 0, solution),
-        Implied::Refused {
-            number,
-            evaluations,
-        } => holds_answer(line, number, zeros(evaluations)),
-    }
-}
-
-fn judge_option(kind: usize, line: &[u8; 240]) -> bool {
-    if kind < 6 {
-        return judge_function(kind, line);
-    }
-    if kind == 6 {
-        return judge_price(line);
-    }
-    if kind == 7 {
-        return judge_greeks(line);
-    }
-    judge_solve(line)
+fn judge_solve(words: &mut Words<'_>) -> bool {
+    let option_type = option_type(words);
+    let market = words.float();
+    let params = option(words, option_type);
+    answers(
+        words,
+        &solve_words(greeks::implied_volatility(market, params)),
+    )
 }
 
 // ---- a surface
 
-// How many quotes wait for a build, and the lengths of the axes of the last one.
-#[derive(Clone, Copy)]
-struct State {
-    quotes: usize,
-    strikes: usize,
-    expiries: usize,
-}
+const NO_LENGTHS: Lengths = Lengths {
+    strikes: 0,
+    expiries: 0,
+};
 
-// 1: an input was taken; 2: the answer is the line's; 3: it is another, or the line cannot be read.
+// The quotes that wait for a build, and what the last one left.
 #[derive(Drop)]
-struct Told {
-    state: State,
-    verdict: u64,
-}
-
-fn verdict(right: bool) -> u64 {
-    if right { 2 } else { 3 }
-}
-
-// A quote goes to the end of the columns.
-fn quote(
-    line: &[u8; 240],
-    at: usize,
-    strikes: &mut [f64; 1024],
-    expiries: &mut [f64; 1024],
-    volatilities: &mut [f64; 1024],
-) -> usize {
-    if at >= 1024 {
-        return at;
-    }
-    strikes[at] = float(line, 0);
-    expiries[at] = float(line, 1);
-    volatilities[at] = float(line, 2);
-    at + 1
-}
-
-fn judge_build(line: &[u8; 240], built: Built) -> bool {
-    match built {
-        Built::Surface { strikes, expiries } => (word(line, 0) == 0)
-            & (word(line, 1) == strikes as u64)
-            & (word(line, 2) == expiries as u64),
-        Built::Refused { number } => (word(line, 0) == number)
-            & (word(line, 1) == 0)
-            & (word(line, 2) == 0),
-    }
-}
-
-// No quotes wait after a build.
-fn built_state(built: Built) -> State {
-    match built {
-        Built::Surface { strikes, expiries } => State {
-            quotes: 0,
-            strikes,
-            expiries,
-        },
-        Built::Refused { number: _ } => State {
-            quotes: 0,
-            strikes: 0,
-            expiries: 0,
-        },
-    }
+struct Sheet {
+    strikes: [f64; 1024],
+    expiries: [f64; 1024],
+    volatilities: [f64; 1024],
+    quotes: usize,
+    strike_axis: [f64; 64],
+    expiry_axis: [f64; 32],
+    grid: [f64; 2048],
+    counts: [u64; 2048],
+    lengths: Lengths,
 }
 
 // Whether an axis holds the line's value at the line's index.
-fn judge_axis(line: &[u8; 240], axis: &[f64]) -> bool {
-    let at = word(line, 0) as usize;
-    if at >= axis.len() {
-        return false;
-    }
-    holds(line, 1, axis[at])
-}
-
-fn judge_cell(line: &[u8; 240], grid: &[f64; 2048], counts: &[u64; 2048]) -> bool {
-    let at = word(line, 0) as usize;
-    if at >= 2048 {
-        return false;
-    }
-    holds(line, 1, grid[at]) & (counts[at] == word(line, 2))
-}
-
-// A reading's number and value, from an index on.
-fn judge_reading(line: &[u8; 240], from: usize, reading: Reading) -> bool
-    requires { from < 3 }
-{
-    match reading {
-        Reading::Value { volatility } => (word(line, from) == 0)
-            & holds(line, from + 1, volatility),
-        Reading::Refused { number } => (word(line, from) == number) & holds(line, from + 1, 0.0),
+fn judge_axis(words: &mut Words<'_>, axis: &[f64]) -> bool {
+    match axis.get(words.word() as usize) {
+        Some(x) => answers(words, &[bits_of(*x)]),
+        None => false,
     }
 }
 
-fn judge_read(
-    line: &[u8; 240],
-    state: State,
-    strike_axis: &[f64; 64],
-    expiry_axis: &[f64; 32],
-    grid: &[f64; 2048],
-) -> bool {
-    let reading = readings::interpolate(
-        strike_axis,
-        expiry_axis,
-        grid,
-        state.strikes,
-        state.expiries,
-        float(line, 0),
-        float(line, 1),
-    );
-    judge_reading(line, 2, reading)
+fn judge_reading(words: &mut Words<'_>, reading: Result<f64, Refusal>) -> bool {
+    answers(
+        words,
+        &[number_of(reading), bits_of(reading.unwrap_or(0.0))],
+    )
 }
 
-fn judge_middle(
-    line: &[u8; 240],
-    state: State,
-    strike_axis: &[f64; 64],
-    expiry_axis: &[f64; 32],
-    grid: &[f64; 2048],
-) -> bool {
-    let reading = readings::middle_strike(
-        strike_axis,
-        expiry_axis,
-        grid,
-        state.strikes,
-        state.expiries,
-        float(line, 0),
-    );
-    judge_reading(line, 1, reading)
-}
+impl Sheet {
+    fn empty() -> Sheet {
+        Sheet {
+            strikes: [0.0; 1024],
+            expiries: [0.0; 1024],
+            volatilities: [0.0; 1024],
+            quotes: 0,
+            strike_axis: [0.0; 64],
+            expiry_axis: [0.0; 32],
+            grid: [0.0; 2048],
+            counts: [0; 2048],
+            lengths: NO_LENGTHS,
+        }
+    }
 
-// What a line of a surface asks of the last build.
-fn judge_surface(
-    kind: usize,
-    line: &[u8; 240],
-    state: State,
-    strike_axis: &[f64; 64],
-    expiry_axis: &[f64; 32],
-    grid: &[f64; 2048],
-    counts: &[u64; 2048],
-) -> bool {
-    if kind == 11 {
-        return judge_axis(line, strike_axis);
+    // A quote goes to the end of the columns.
+    fn quote(&mut self, words: &mut Words<'_>) {
+        let at = self.quotes;
+        if at < 1024 {
+            self.strikes[at] = words.float();
+            self.expiries[at] = words.float();
+            self.volatilities[at] = words.float();
+            self.quotes = at + 1;
+        }
     }
-    if kind == 12 {
-        return judge_axis(line, expiry_axis);
+
+    // Of the quotes that wait, of which none is left.
+    fn build(&mut self) -> Result<Lengths, Refusal> {
+        let quotes = Quotes {
+            strikes: &self.strikes,
+            expiries: &self.expiries,
+            volatilities: &self.volatilities,
+        };
+        let mut buffers = SurfaceBuffers {
+            strike_axis: &mut self.strike_axis,
+            expiry_axis: &mut self.expiry_axis,
+            grid: &mut self.grid,
+            counts: &mut self.counts,
+        };
+        let built = surface::build(&quotes, self.quotes as u64, &mut buffers);
+        self.quotes = 0;
+        self.lengths = built.unwrap_or(NO_LENGTHS);
+        built
     }
-    if kind == 13 {
-        return judge_cell(line, grid, counts);
+
+    fn judge_build(&mut self, words: &mut Words<'_>) -> bool {
+        let built = self.build();
+        let lengths = self.lengths;
+        answers(
+            words,
+            &[
+                number_of(built),
+                lengths.strikes as u64,
+                lengths.expiries as u64,
+            ],
+        )
     }
-    if kind == 14 {
-        return judge_read(line, state, strike_axis, expiry_axis, grid);
+
+    fn surface(&self) -> Surface<'_> {
+        Surface {
+            strike_axis: &self.strike_axis,
+            expiry_axis: &self.expiry_axis,
+            grid: &self.grid,
+            strikes: self.lengths.strikes,
+            expiries: self.lengths.expiries,
+        }
     }
-    judge_middle(line, state, strike_axis, expiry_axis, grid)
+
+    fn judge_cell(&self, words: &mut Words<'_>) -> bool {
+        let at = words.word() as usize;
+        match (self.grid.get(at), self.counts.get(at)) {
+            (Some(x), Some(count)) => answers(words, &[bits_of(*x), *count]),
+            _ => false,
+        }
+    }
+
+    fn judge_read(&self, words: &mut Words<'_>) -> bool {
+        let strike = words.float();
+        let expiry = words.float();
+        judge_reading(words, self.surface().interpolate(strike, expiry))
+    }
+
+    fn judge_middle(&self, words: &mut Words<'_>) -> bool {
+        let expiry = words.float();
+        judge_reading(words, self.surface().middle_strike(expiry))
+    }
 }
 
 // ---- the gap filler
 
-fn gap(line: &[u8; 240], cells: &mut [f64; 2048]) {
-    let at = word(line, 0) as usize;
-    if at < 2048 {
-        cells[at] = float(line, 1);
+fn gap(words: &mut Words<'_>, cells: &mut [f64]) {
+    let at = words.word() as usize;
+    if at < cells.len() {
+        cells[at] = words.float();
     }
 }
 
-fn judge_filling(line: &[u8; 240], filling: Filling) -> bool {
-    match filling {
-        Filling::Done => word(line, 2) == 0,
-        Filling::Refused { number } => word(line, 2) == number,
-    }
-}
-
-// A gap, a filling or a filled cell.
-fn judge_gaps(kind: usize, line: &[u8; 240], cells: &mut [f64; 2048]) -> u64 {
-    if kind == 16 {
-        gap(line, cells);
-        return 1;
-    }
-    if kind == 17 {
-        let filling = filler::fill_gaps(cells, word(line, 0) as usize, word(line, 1) as usize);
-        return verdict(judge_filling(line, filling));
-    }
-    verdict(judge_axis(line, cells))
+fn judge_filling(words: &mut Words<'_>, cells: &mut [f64]) -> bool {
+    let strikes = words.word() as usize;
+    let expiries = words.word() as usize;
+    let filled = filler::fill_gaps(cells, strikes, expiries);
+    answers(words, &[number_of(filled)])
 }
 
 // ---- the list
 
-// A line as it was read: its kind, 19 where it cannot be read, 20 where the list has ended.
-#[derive(Drop)]
-struct Line {
-    kind: usize,
-    head: [u8; 6],
-    words: [u8; 240],
-}
-
-fn read_line() -> Line {
-    let mut head = [b' '; 6];
-    let mut words = [b' '; 240];
-    let n = io::read_full(0, &mut head);
-    if n == 0 {
-        return Line {
-            kind: 20,
-            head,
-            words,
-        };
-    }
-    let kind = kind_of(&head);
-    let end = 17 * width(kind) + 1;
-    let got = io::read_full(0, &mut words[..end]);
-    if (got < end) | (words[end - 1] != b'\n') {
-        return Line {
-            kind: 19,
-            head,
-            words,
-        };
-    }
-    Line { kind, head, words }
-}
-
-// One line: what it says is taken or judged.
+// One line: whether its answer is the right one; none where it brings an input.
 fn turn(
-    kind: usize,
-    line: &[u8; 240],
-    state: State,
-    strikes: &mut [f64; 1024],
-    expiries: &mut [f64; 1024],
-    volatilities: &mut [f64; 1024],
-    strike_axis: &mut [f64; 64],
-    expiry_axis: &mut [f64; 32],
-    grid: &mut [f64; 2048],
-    counts: &mut [u64; 2048],
+    kind: Kind,
+    words: &mut Words<'_>,
+    sheet: &mut Sheet,
     cells: &mut [f64; 2048],
-) -> Told {
-    if kind < 9 {
-        return Told {
-            state,
-            verdict: verdict(judge_option(kind, line)),
-        };
-    }
-    if kind == 9 {
-        let quotes = quote(line, state.quotes, strikes, expiries, volatilities);
-        return Told {
-            state: State {
-                quotes,
-                strikes: state.strikes,
-                expiries: state.expiries,
-            },
-            verdict: 1,
-        };
-    }
-    if kind == 10 {
-        let built = surface::build(
-            strikes,
-            expiries,
-            volatilities,
-            state.quotes as u64,
-            strike_axis,
-            expiry_axis,
-            grid,
-            counts,
-        );
-        return Told {
-            state: built_state(built),
-            verdict: verdict(judge_build(line, built)),
-        };
-    }
-    if kind < 16 {
-        let right = judge_surface(kind, line, state, strike_axis, expiry_axis, grid, counts);
-        return Told {
-            state,
-            verdict: verdict(right),
-        };
-    }
-    if kind < 19 {
-        return Told {
-            state,
-            verdict: judge_gaps(kind, line, cells),
-        };
-    }
-    Told { state, verdict: 3 }
-}
-
-// One more in a tally.
-fn count(tally: &mut [u64; 20], kind: usize) {
-    if kind < 20 {
-        tally[kind] = std::num::wrapping_add_u64(tally[kind], 1);
-    }
-}
-
-fn note(kind: usize, verdict: u64, right: &mut [u64; 20], wrong: &mut [u64; 20]) {
-    if verdict == 2 {
-        count(right, kind);
-    }
-    if verdict == 3 {
-        count(wrong, kind);
-    }
-}
-
-fn print_front(text: &[u8], n: usize) {
-    if n <= text.len() {
-        io::write_all(STDOUT_FILENO, &text[..n]);
-    }
+) -> Option<bool> {
+    let right = match kind {
+        Kind::Sqrt => judge_function(words, root::sqrt),
+        Kind::Exp => judge_function(words, exponential::exp),
+        Kind::Ln => judge_function(words, exponential::ln),
+        Kind::Erfc => judge_function(words, normal::erfc),
+        Kind::Pdf => judge_function(words, normal::pdf),
+        Kind::Cdf => judge_function(words, normal::cdf),
+        Kind::Price => judge_price(words),
+        Kind::Greeks => judge_greeks(words),
+        Kind::Solve => judge_solve(words),
+        Kind::Quote => {
+            sheet.quote(words);
+            return None;
+        }
+        Kind::Build => sheet.judge_build(words),
+        Kind::Strike => judge_axis(words, &sheet.strike_axis),
+        Kind::Expiry => judge_axis(words, &sheet.expiry_axis),
+        Kind::Cell => sheet.judge_cell(words),
+        Kind::Read => sheet.judge_read(words),
+        Kind::Middle => sheet.judge_middle(words),
+        Kind::Gap => {
+            gap(words, cells);
+            return None;
+        }
+        Kind::Fill => judge_filling(words, cells),
+        Kind::Filled => judge_axis(words, cells),
+    };
+    Some(right)
 }
 
 // Writes a line out with its number.
-fn report(number: u64, kind: usize, head: &[u8; 6], line: &[u8; 240]) {
+fn report(number: u64, line: &Line) {
     io::write_all(STDOUT_FILENO, b"MISMATCH in line ");
     io::print_decimal(STDOUT_FILENO, number);
     io::write_all(STDOUT_FILENO, b": ");
-    io::write_all(STDOUT_FILENO, head);
-    print_front(line, 17 * width(kind));
+    io::write_all(STDOUT_FILENO, &line.head);
+    io::write_all(STDOUT_FILENO, &line.words[..17 * width_of(line.kind)]);
     io::write_all(STDOUT_FILENO, b"\n");
 }
 
-fn print_total(kind: usize, right: u64, wrong: u64)
-    requires { kind < 20 }
-{
-    if (right == 0) & (wrong == 0) {
+fn print_total(name: &[u8; 6], tally: Tally) {
+    if tally.is_empty() {
         return;
     }
-    io::write_all(STDOUT_FILENO, &name(kind));
+    io::write_all(STDOUT_FILENO, name);
     io::write_all(STDOUT_FILENO, b" ");
-    io::print_decimal(STDOUT_FILENO, right);
-    io::write_all(STDOUT_FILENO, b" ok, ");
-    io::print_decimal(STDOUT_FILENO, wrong);
-    io::write_all(STDOUT_FILENO, b" MISMATCH\n");
+    tally.print();
 }
 
-fn print_totals(right: &[u64; 20], wrong: &[u64; 20]) {
-    let mut kind: usize = 0;
-    while kind < 20 {
-        print_total(kind, right[kind], wrong[kind]);
-        kind += 1;
+fn print_totals(tallies: [Tally; 19], unreadable: Tally) {
+    for (kind, tally) in Kind::ALL.iter().zip(tallies) {
+        print_total(&kind.name(), tally);
     }
+    print_total(b"none  ", unreadable);
 }
 
 fn main() {
-    let mut strikes = [0.0f64; 1024];
-    let mut expiries = [0.0f64; 1024];
-    let mut volatilities = [0.0f64; 1024];
-    let mut strike_axis = [0.0f64; 64];
-    let mut expiry_axis = [0.0f64; 32];
-    let mut grid = [0.0f64; 2048];
-    let mut counts = [0u64; 2048];
-    let mut cells = [0.0f64; 2048];
-    let mut right = [0u64; 20];
-    let mut wrong = [0u64; 20];
-    let mut state = State {
-        quotes: 0,
-        strikes: 0,
-        expiries: 0,
-    };
-    let mut number: u64 = 0;
-    while number < 100000 {
-        let l = read_line();
-        let kind = l.kind;
-        let head = l.head;
-        let line = l.words;
-        if kind > 19 {
+    let mut sheet = Sheet::empty();
+    let mut cells = [0.0; 2048];
+    let mut tallies = [Tally::NONE; 19];
+    let mut unreadable = Tally::NONE;
+    for number in 1..100001 {
+        let Some(line) = read_line() else {
             break;
-        }
-        number += 1;
-        let t = turn(
-            kind,
-            &line,
-            state,
-            &mut strikes,
-            &mut expiries,
-            &mut volatilities,
-            &mut strike_axis,
-            &mut expiry_axis,
-            &mut grid,
-            &mut counts,
-            &mut cells,
-        );
-        state = t.state;
-        note(kind, t.verdict, &mut right, &mut wrong);
-        if t.verdict == 3 {
-            report(number, kind, &head, &line);
-        }
-        if kind == 19 {
+        };
+        let Some(kind) = line.kind else {
+            unreadable.count(false);
+            report(number, &line);
             break;
+        };
+        let mut words = Words {
+            text: &line.words[1..],
+        };
+        if let Some(right) = turn(kind, &mut words, &mut sheet, &mut cells) {
+            tallies[kind as usize].count(right);
+            if !right {
+                report(number, &line);
+            }
         }
     }
-    print_totals(&right, &wrong);
+    print_totals(tallies, unreadable);
 }

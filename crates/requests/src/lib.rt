@@ -2,110 +2,120 @@
 #![tactic(auto)]
 
 ghost use Rattle.std.specs.Prelude.{◌≡◌};
-ghost use Rattle.wording.specs.Requests.{called, offered, option, request_of, book_request, model_request};
+ghost use Rattle.wording.specs.Requests.{opening, offered, build, read, money, option, ends, request_of};
 
 use blackscholes::OptionParams;
 use frames::float_of;
+use ledger::Opening;
 use wording::Request;
 
-// A line of this name with so many words.
-fn is(name: &[u8; 6], n: usize, text: &[u8; 6], words: usize) -> bool
-    ensures { result ≡ called name.now n text.now words }
+fn opening(words: &[u64]) -> Option<Request>
+    ensures { result ≡ opening words.now }
 {
-    let first = (name[0] == text[0]) & (name[1] == text[1]) & (name[2] == text[2]);
-    let last = (name[3] == text[3]) & (name[4] == text[4]) & (name[5] == text[5]);
-    first & last & (n == words)
+    let &[spot, rate] = words else {
+        return None;
+    };
+    Some(Request::Open(Opening {
+        spot: float_of(spot),
+        rate: float_of(rate),
+    }))
 }
 
-fn offered(is_price: bool, is_put: bool, x: [u64; 6]) -> Request
-    ensures { result ≡ offered is_price is_put x }
+fn offered(is_price: bool, is_put: bool, words: &[u64]) -> Option<Request>
+    ensures { result ≡ offered is_price is_put words.now }
 {
-    let figures = [float_of(x[0]), float_of(x[1]), float_of(x[2])];
-    Request::Offer {
-        offer: rows::offer_of([is_price, is_put], figures),
+    let &[strike, expiry, value] = words else {
+        return None;
+    };
+    let figures = [float_of(strike), float_of(expiry), float_of(value)];
+    Some(Request::Offer(rows::offer_of([is_price, is_put], figures)))
+}
+
+fn build(words: &[u64]) -> Option<Request>
+    ensures { result ≡ build words.now }
+{
+    match words {
+        [] => Some(Request::Build),
+        _ => None,
     }
 }
 
-fn option_of(x: [u64; 6]) -> OptionParams
-    ensures { result ≡ option x }
+fn read(words: &[u64]) -> Option<Request>
+    ensures { result ≡ read words.now }
 {
-    OptionParams {
-        spot: float_of(x[1]),
-        strike: float_of(x[2]),
-        time_to_expiry: float_of(x[3]),
-        risk_free_rate: float_of(x[4]),
-        volatility: float_of(x[5]),
-        option_type: rows::kind_of(x[0] == 1),
-    }
+    let &[strike, expiry] = words else {
+        return None;
+    };
+    Some(Request::Read {
+        strike: float_of(strike),
+        expiry: float_of(expiry),
+    })
 }
 
-// Of a model's option, whose first word is 0 or 1.
-fn model_request(name: &[u8; 6], n: usize, x: [u64; 6]) -> Request
-    ensures { result ≡ model_request name.now n x }
+fn money(words: &[u64]) -> Option<Request>
+    ensures { result ≡ money words.now }
 {
-    if x[0] > 1 {
-        return Request::Bad;
-    }
-    if is(name, n, b"price ", 6) {
-        return Request::Price {
-            option: option_of(x),
-        };
-    }
-    if is(name, n, b"greeks", 6) {
-        return Request::Greeks {
-            option: option_of(x),
-        };
-    }
-    if is(name, n, b"ends  ", 4) {
-        return Request::Ends {
-            kind: rows::kind_of(x[0] == 1),
-            strike: float_of(x[1]),
-            expiry: float_of(x[2]),
-            market: float_of(x[3]),
-        };
-    }
-    Request::Bad
+    let &[expiry] = words else {
+        return None;
+    };
+    Some(Request::Money {
+        expiry: float_of(expiry),
+    })
 }
 
-// Of the book and its surface, else of the model.
-fn book_request(name: &[u8; 6], n: usize, x: [u64; 6]) -> Request
-    ensures { result ≡ book_request name.now n x }
+// A model's option, whose first word is 0 or 1.
+fn option(words: &[u64]) -> Option<OptionParams>
+    ensures { result ≡ option words.now }
 {
-    if is(name, n, b"open  ", 2) {
-        return Request::Open {
-            spot: float_of(x[0]),
-            rate: float_of(x[1]),
-        };
+    let &[put, spot, strike, expiry, rate, volatility] = words else {
+        return None;
+    };
+    if put > 1 {
+        return None;
     }
-    if is(name, n, b"build ", 0) {
-        return Request::Build;
-    }
-    if is(name, n, b"read  ", 2) {
-        return Request::Read {
-            strike: float_of(x[0]),
-            expiry: float_of(x[1]),
-        };
-    }
-    if is(name, n, b"money ", 1) {
-        return Request::Money {
-            expiry: float_of(x[0]),
-        };
-    }
-    model_request(name, n, x)
+    Some(rows::option_of(
+        put == 1,
+        float_of(spot),
+        float_of(strike),
+        float_of(expiry),
+        float_of(rate),
+        float_of(volatility),
+    ))
 }
 
-// What a line of this name with n words asks, x being the words; past n they are not looked at.
-pub fn request_of(name: &[u8; 6], n: usize, x: [u64; 6]) -> Request
-    ensures { result ≡ request_of name.now n x }
+fn ends(words: &[u64]) -> Option<Request>
+    ensures { result ≡ ends words.now }
 {
-    if is(name, n, b"call  ", 3) {
-        return offered(true, false, x);
+    let &[put, strike, expiry, market] = words else {
+        return None;
+    };
+    if put > 1 {
+        return None;
     }
-    if is(name, n, b"put   ", 3) {
-        return offered(true, true, x);
+    Some(Request::Ends {
+        kind: rows::kind_of(put == 1),
+        strike: float_of(strike),
+        expiry: float_of(expiry),
+        market: float_of(market),
+    })
+}
+
+// What a line of this name with these words asks.
+#[tactic(auto, unfolding(wording::specs::Requests::request_of))]
+pub fn request_of(name: &[u8; 6], words: &[u64]) -> Option<Request>
+    ensures { result ≡ request_of name.now words.now }
+{
+    match name {
+        b"open  " => opening(words),
+        b"call  " => offered(true, false, words),
+        b"put   " => offered(true, true, words),
+        b"vol   " => offered(false, false, words),
+        b"build " => build(words),
+        b"read  " => read(words),
+        b"money " => money(words),
+        b"price " => option(words).map(Request::Price),
+        b"greeks" => option(words).map(Request::Greeks),
+        b"ends  " => ends(words),
+        _ => None,
     }
-    if is(name, n, b"vol   ", 3) {
-        return offered(false, false, x);
-    }
-    book_request(name, n, x)
 }

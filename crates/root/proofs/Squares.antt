@@ -15,29 +15,17 @@ use Rattle.floats.proofs.Pattern.{of_bits_normal}
 pub root_lt : (q b : ℕ) → q * q < b * b → q < b
 root_lt q b h = lt_of_not-le (λ (g : b ≤ q). lt_irrefl (b * b) (lt_of_le_of_lt (mul-le-mul g g) h))
 
-pub below_60 : (q rem x : ℕ) → q * q + rem ≡ x → x < 18014398509481984 * 18014398509481984 → q < 2 ^ 60
-below_60 q rem x e h = let l = root_lt q 18014398509481984 (omega arith) in omega arith
-
-pub all_shifted : (t : ℕ) → t < 2 ^ 54 → t / 2 ^ (2 * 27) ≡ 0
-all_shifted t h = div-eq_of_lt h
-
-pub digit : (t i : ℕ) → 0 < i → 4 * (t / 2 ^ (2 * i)) + t / 2 ^ (2 * (i - 1)) % 4 ≡ t / 2 ^ (2 * (i - 1))
-digit t i h =
-    let e : 2 * i ≡ 2 * (i - 1) + 2 = omega arith in
-    let x = t / 2 ^ (2 * (i - 1)) in
-    let s : t / 2 ^ (2 * i) ≡ t / 2 ^ (2 * (i - 1)) / 4 = ap (λ (k : ℕ). t / 2 ^ k) e ∙ sym (shr-shr t (2 * (i - 1)) 2) in
-    omega arith
-
+-- ---- a round of the loop
+-- with n rounds done the number under the root and the digits to come are t × 4^n, the latter at the left end of a word
 pub grow : (t n : ℕ) → 4 * (t * 2 ^ (2 * n)) ≡ t * 2 ^ (2 * (n + 1))
 grow t n =
     let e : 2 * n + 2 ≡ 2 * (n + 1) = omega arith in
     mul_comm 4 (t * 2 ^ (2 * n)) ∙ mul_assoc t (2 ^ (2 * n)) 4 ∙ ap (λ (x : ℕ). t * x) (sym (pow-add 2 (2 * n) 2) ∙ ap (λ (x : ℕ). 2 ^ x) e)
 
-pub shrunk_lt : (t i : ℕ) → t < 2 ^ 54 → t / 2 ^ (2 * i) < 18014398509481984 * 18014398509481984
-shrunk_lt t i h = lt_of_le_of_lt (div-le_self t (2 ^ (2 * i))) (lt_of_lt_of_le h (pow_mono {i = 54} {j = 108} (omega arith)))
-
-pub grown_lt : (t n : ℕ) → t < 2 ^ 54 → n ≤ 27 → t * 2 ^ (2 * n) < 18014398509481984 * 18014398509481984
-grown_lt t n h l = lt_of_lt_of_le (shl_lt 54 (2 * n) h) (pow_mono {i = 54 + 2 * n} {j = 108} (omega arith))
+pub below_60 : (q rem rest t n : ℕ) → t < 2 ^ 54 → n ≤ 53 → (q * q + rem) * 2 ^ 64 + rest ≡ 2 ^ 10 * (t * 2 ^ (2 * n)) → q < 2 ^ 60
+below_60 q rem rest t n T N e =
+    let g : t * 2 ^ (2 * n) < 2 ^ 162 = lt_of_lt_of_le (shl_lt 54 (2 * n) T) (pow_mono {i = 54 + 2 * n} {j = 162} (omega arith)) in
+    let l = root_lt q 18014398509481984 (omega arith) in omega arith
 
 -- ---- the root of the spec
 unfoldable pub IsRoot : ℕ → ℕ → Type 0

@@ -5,31 +5,36 @@ ghost use Rattle.std.specs.Prelude.{◌≡◌, min};
 ghost use Rattle.blackscholes.specs.Implied.{outcome_of_implied};
 ghost use Rattle.ledger.specs.Rows.{kind_of, terms_of, offer_of, option_of, numbers_of, evidence_of, shortest, book_in};
 
-use blackscholes::{Implied, OptionParams, OptionType};
-use ledger::{Book, Offer, Terms};
+use blackscholes::{OptionParams, OptionType};
+use brent::{Solution, Unsolved};
+use ledger::{Book, Offer, Opening, Terms};
 
+// A C host passes a kind as a `bool`. No `From`, since this crate owns neither type.
 pub fn kind_of(is_put: bool) -> OptionType
     ensures { result ≡ kind_of is_put }
 {
     if is_put {
-        return OptionType::Put;
+        OptionType::Put
+    } else {
+        OptionType::Call
     }
-    OptionType::Call
 }
 
 fn terms_of(is_price: bool, is_put: bool, value: f64) -> Terms
     ensures { result ≡ terms_of is_price is_put value }
 {
     if is_price {
-        return Terms::Price {
+        Terms::Price {
             kind: kind_of(is_put),
             market: value,
-        };
+        }
+    } else {
+        Terms::Volatility { v: value }
     }
-    Terms::Volatility { v: value }
 }
 
 // An offer's rows: whether it is a price, and of a put; strike, expiry, value.
+#[tactic(auto, unfolding(ledger::specs::Rows::offer_of))]
 pub fn offer_of(kind: [bool; 2], figures: [f64; 3]) -> Offer
     ensures { result ≡ offer_of kind figures }
 {
@@ -40,6 +45,7 @@ pub fn offer_of(kind: [bool; 2], figures: [f64; 3]) -> Offer
     }
 }
 
+#[tactic(auto, unfolding(ledger::specs::Rows::option_of))]
 pub fn option_of(
     put: bool,
     spot: f64,
@@ -61,55 +67,45 @@ pub fn option_of(
 }
 
 // An answer's rows: its number, 0 where it was accepted, and evaluations; volatility, error, point c and its error.
-pub fn numbers_of(answer: Implied) -> [u64; 2]
+#[tactic(auto, unfolding(ledger::specs::Rows::numbers_of, brent::specs::Outcome::outcome_of_implied, brent::specs::Outcome::zeros))]
+pub fn numbers_of(answer: Result<Solution, Unsolved>) -> [u64; 2]
     ensures { result ≡ numbers_of (outcome_of_implied answer) }
 {
     match answer {
-        Implied::Found { solution } => [0, solution.evaluations],
-        Implied::Refused {
-            number,
-            evaluations,
-        } => [number, evaluations],
+        Ok(solution) => [0, solution.evaluations],
+        Err(unsolved) => [u64::from(unsolved.refusal), unsolved.evaluations],
     }
 }
 
-pub fn evidence_of(answer: Implied) -> [f64; 4]
+#[tactic(auto, unfolding(ledger::specs::Rows::evidence_of, brent::specs::Outcome::outcome_of_implied))]
+pub fn evidence_of(answer: Result<Solution, Unsolved>) -> [f64; 4]
     ensures { result ≡ evidence_of (outcome_of_implied answer) }
 {
     match answer {
-        Implied::Found { solution } => [
+        Ok(solution) => [
             solution.volatility,
             solution.error,
             solution.c,
             solution.c_error,
         ],
-        Implied::Refused {
-            number: _,
-            evaluations: _,
-        } => [0.0, 0.0, 0.0, 0.0],
+        Err(_) => [0.0; 4],
     }
-}
-
-fn least(a: usize, b: usize) -> usize
-    ensures { result ≡ min a b }
-{
-    if a < b { a } else { b }
 }
 
 // How many rows all four slices have.
 pub fn shortest(a: usize, b: usize, c: usize, d: usize) -> usize
     ensures { result ≡ shortest a b c d }
 {
-    least(a, least(b, least(c, d)))
+    a.min(b.min(c.min(d)))
 }
 
 // The record that an opening's inputs and four totals stand for: kept, refused, heard, evaluations.
-pub fn book_of(spot: f64, rate: f64, totals: [u64; 4]) -> Book
-    ensures { result ≡ book_in (record { spot = spot; rate = rate }) totals }
+pub fn book_of(opening: Opening, totals: [u64; 4]) -> Book
+    ensures { result ≡ book_in opening totals }
 {
     Book {
-        spot,
-        rate,
+        spot: opening.spot,
+        rate: opening.rate,
         kept: totals[0],
         refused: totals[1],
         heard: totals[2],

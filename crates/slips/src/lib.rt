@@ -1,42 +1,53 @@
 // The words of an answer.
 #![tactic(auto)]
 
-ghost use Rattle.std.specs.Prelude.{◌≡◌};
-ghost use Rattle.blackscholes.specs.Model.{at_volatility};
-ghost use Rattle.blackscholes.specs.Checks.{pricing, sensitivities};
+ghost use Rattle.std.specs.Prelude.{◌≡◌, ◌∷◌, ◌-◌, ◌<◌, replicate};
+ghost use Rattle.limits.specs.Refusals.{number};
+ghost use Rattle.blackscholes.specs.Checks.{outcome_of_price, pricing, sensitivities};
 ghost use Rattle.blackscholes.specs.Implied.{outcome_of_implied};
-ghost use Rattle.grid.specs.Readings.{read_outcome};
+ghost use Rattle.chart.specs.Build.{outcome};
 ghost use Rattle.ledger.specs.Money.{money_outcome};
 ghost use Rattle.wording.specs.Words.{value_words, money_words, offer_words, greeks_words, build_words, cell_words, ends_words};
 
-use blackscholes::{Implied, OptionParams, Priced, Sensitivities};
-use brent::Answer;
-use chart::Built;
+use blackscholes::OptionParams;
+use brent::{Answer, Solution, Unsolved};
+use chart::Lengths;
 use frames::bits_of;
-use grid::Reading;
-use ledger::AtTheMoney;
+use ledger::Money;
+use limits::Refusal;
 
-pub fn offer_words(answer: Implied) -> [u64; 6]
+// A refusal's number, and zeros for the figures.
+fn refused<const N: usize>(refusal: Refusal) -> [u64; N]
+    requires { 0 < N }
+    ensures { result ≡ number refusal ∷ replicate (N - 1) 0 }
+{
+    let mut words = [0; N];
+    words[0] = u64::from(refusal);
+    words
+}
+
+#[tactic(auto, unfolding(ledger::specs::Rows::numbers_of, ledger::specs::Rows::evidence_of))]
+pub fn offer_words(answer: Result<Solution, Unsolved>) -> [u64; 6]
     ensures { result ≡ offer_words (outcome_of_implied answer) }
 {
-    let n = rows::numbers_of(answer);
-    let x = rows::evidence_of(answer);
+    let [number, evaluations] = rows::numbers_of(answer);
+    let [volatility, error, c, c_error] = rows::evidence_of(answer);
     [
-        n[0],
-        n[1],
-        bits_of(x[0]),
-        bits_of(x[1]),
-        bits_of(x[2]),
-        bits_of(x[3]),
+        number,
+        evaluations,
+        bits_of(volatility),
+        bits_of(error),
+        bits_of(c),
+        bits_of(c_error),
     ]
 }
 
-pub fn build_words(answer: Built) -> [u64; 3]
-    ensures { result ≡ build_words answer }
+pub fn build_words(answer: Result<Lengths, Refusal>) -> [u64; 3]
+    ensures { result ≡ build_words (outcome answer) }
 {
     match answer {
-        Built::Surface { strikes, expiries } => [0, strikes as u64, expiries as u64],
-        Built::Refused { number } => [number, 0, 0],
+        Ok(lengths) => [0, lengths.strikes as u64, lengths.expiries as u64],
+        Err(refusal) => refused(refusal),
     }
 }
 
@@ -46,40 +57,39 @@ pub fn cell_words(value: f64, count: u64) -> [u64; 2]
     [bits_of(value), count]
 }
 
-pub fn read_words(answer: Reading) -> [u64; 2]
-    ensures { result ≡ value_words (read_outcome answer) }
+// A price's or a reading's.
+#[tactic(auto, using(crate::proofs::Zero::zero_bits))]
+pub fn value_words(answer: Result<f64, Refusal>) -> [u64; 2]
+    ensures { result ≡ value_words (outcome_of_price answer) }
 {
     match answer {
-        Reading::Value { volatility } => [0, bits_of(volatility)],
-        Reading::Refused { number } => [number, 0],
+        Ok(value) => [0, bits_of(value)],
+        Err(refusal) => refused(refusal),
     }
 }
 
-pub fn money_words(answer: AtTheMoney) -> [u64; 3]
+#[tactic(auto, using(crate::proofs::Zero::zero_bits))]
+pub fn money_words(answer: Result<Money, Refusal>) -> [u64; 3]
     ensures { result ≡ money_words (money_outcome answer) }
 {
     match answer {
-        AtTheMoney::Value { money } => [0, bits_of(money.strike), bits_of(money.volatility)],
-        AtTheMoney::Refused { number } => [number, 0, 0],
+        Ok(money) => [0, bits_of(money.strike), bits_of(money.volatility)],
+        Err(refusal) => refused(refusal),
     }
 }
 
 pub fn price_words(option: OptionParams) -> [u64; 2]
     ensures { result ≡ value_words (pricing option) }
 {
-    let answer = greeks::bsm_price(option);
-    match answer {
-        Priced::Price { value } => [0, bits_of(value)],
-        Priced::Refused { number } => [number, 0],
-    }
+    value_words(greeks::bsm_price(option))
 }
 
+#[tactic(auto, using(crate::proofs::Zero::zero_bits))]
 pub fn greeks_words(option: OptionParams) -> [u64; 8]
     ensures { result ≡ greeks_words (sensitivities option) }
 {
-    let answer = greeks::bsm_greeks(option);
-    match answer {
-        Sensitivities::Found { greeks } => [
+    match greeks::bsm_greeks(option) {
+        Ok(greeks) => [
             0,
             bits_of(greeks.delta),
             bits_of(greeks.gamma),
@@ -89,33 +99,27 @@ pub fn greeks_words(option: OptionParams) -> [u64; 8]
             bits_of(greeks.vanna),
             bits_of(greeks.volga),
         ],
-        Sensitivities::Refused { number } => [number, 0, 0, 0, 0, 0, 0, 0],
-    }
-}
-
-fn at_volatility(p: OptionParams, v: f64) -> OptionParams
-    ensures { result ≡ at_volatility p v }
-{
-    let kind = p.option_type;
-    OptionParams {
-        spot: p.spot,
-        strike: p.strike,
-        time_to_expiry: p.time_to_expiry,
-        risk_free_rate: p.risk_free_rate,
-        volatility: v,
-        option_type: kind,
+        Err(refusal) => refused(refusal),
     }
 }
 
 // The prices at the ends of a solver, which a fresh one has at a, where it asks first, and at b, where it asks next.
+#[tactic(auto, unfolding(brent::specs::Outcome::outcome, brent::specs::Feed::start, brent::specs::Feed::fresh, brent::specs::Feed::refuse))]
 pub fn ends_words(market: f64, option: OptionParams) -> [u64; 3]
     ensures { result ≡ ends_words market option }
 {
-    let asked = solver::start(market);
-    let Answer::Ask { volatility, next } = asked else {
-        return [5, 0, 0];
-    };
-    let low = price_words(at_volatility(option, volatility));
-    let high = price_words(at_volatility(option, next.points.b));
-    [low[0], low[1], high[1]]
+    match solver::start(market) {
+        Answer::Ask { volatility, next } => {
+            let [number, low] = price_words(OptionParams {
+                volatility,
+                ..option
+            });
+            let [_, high] = price_words(OptionParams {
+                volatility: next.points.b,
+                ..option
+            });
+            [number, low, high]
+        }
+        Answer::Ended { .. } => refused(Refusal::Price),
+    }
 }

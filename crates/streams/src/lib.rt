@@ -1,9 +1,9 @@
 // The lines of a byte stream, whatever its chunks: the part of a line that is held, the bytes taken into it, and how many lines there are.
 #![tactic(auto)]
 
-ghost use Rattle.std.specs.Prelude.{◌≡◌, ◌≤◌, length};
+ghost use Rattle.std.specs.Prelude.{◌≡◌, length};
 ghost use Rattle.hexlines.specs.Frames.{frame_of};
-ghost use Rattle.hexlines.specs.Lines.{unended, held, no_line, pushed, taken, feed_in, feeds};
+ghost use Rattle.hexlines.specs.Lines.{unended, held, no_line, pushed, taken, feeds};
 
 use hexlines::{Frame, Line, Taken};
 
@@ -11,79 +11,62 @@ pub fn no_line() -> Line
     ensures { result ≡ no_line }
 {
     Line {
-        bytes: [0u8; 51],
+        bytes: [0; 51],
         seen: 0,
     }
 }
 
 // One byte more of the line.
-pub fn push(line: Line, b: u8) -> Line
+#[tactic(auto, unfolding(hexlines::specs::Lines::pushed))]
+pub fn push(mut line: Line, b: u8) -> Line
     ensures { result ≡ pushed line b }
 {
-    let mut l = line;
-    let n = l.seen;
-    if n < 51 {
-        l.bytes[n] = b;
-        l.seen = n + 1;
-        return l;
+    if line.seen < line.bytes.len() {
+        line.bytes[line.seen] = b;
+        line.seen += 1;
     }
-    l
+    line
 }
 
 // Takes the bytes from a place on into the line, up to a line feed and with it, or to their end.
-pub fn take_line(line: Line, bytes: &[u8], from: usize) -> Taken
+#[tactic(auto, using(hexlines::proofs::Taking::taken_feed, hexlines::proofs::Taking::taken_on, hexlines::proofs::Taking::taken_end))]
+pub fn take_line(mut line: Line, bytes: &[u8], from: usize) -> Taken
     ensures { result ≡ taken line bytes.now from }
 {
-    let mut l = line;
-    let mut i = from;
-    while i < bytes.len() {
-        let b = bytes[i];
-        i += 1;
-        if b == b'\n' {
-            return Taken { line: l, next: i };
+    for i in from..bytes.len() {
+        if bytes[i] == b'\n' {
+            return Taken { line, next: i + 1 };
         }
-        l = push(l, b);
+        line = push(line, bytes[i]);
     }
-    Taken { line: l, next: i }
+    Taken {
+        line,
+        next: from.max(bytes.len()),
+    }
 }
 
 // The frame of a line that has ended.
-pub fn line_frame(line: Line) -> Frame
+#[tactic(auto, using(hexlines::proofs::Parts::over_full))]
+pub fn line_frame(line: Line) -> Option<Frame>
     ensures { result ≡ frame_of (held line) }
 {
-    let n = line.seen;
-    if n > 50 {
-        return Frame::Bad;
-    }
-    let bytes = line.bytes;
-    frames::frame_of(&bytes[..n])
+    frames::frame_of(line.bytes.get(..line.seen)?)
 }
 
 // ---- how many lines there are
 
-// 1 for a line feed, 0 for another byte.
-fn feed_in(b: u8) -> usize
-    ensures { (result ≡ feed_in b) × (result ≤ 1) }
-{
-    if b == b'\n' { 1 } else { 0 }
-}
-
 // How many lines the bytes end.
+#[tactic(auto, using(hexlines::proofs::Counting::feeds_counted))]
 pub fn count_lines(bytes: &[u8]) -> usize
     ensures { result ≡ feeds bytes.now }
 {
-    let mut n = 0;
-    let mut i = 0;
-    while i < bytes.len() {
-        n += feed_in(bytes[i]);
-        i += 1;
-    }
-    n
+    bytes.iter().filter(|b| **b == b'\n').count()
 }
 
 // 1 for a part of a line, 0 for nothing.
+#[tactic(auto, using(hexlines::proofs::Counting::begun_none, hexlines::proofs::Counting::begun_some))]
 pub fn begun(line: Line) -> usize
     ensures { result ≡ length (unended (held line)) }
 {
-    if line.seen == 0 { 0 } else { 1 }
+    usize::from(line.seen > 0)
 }

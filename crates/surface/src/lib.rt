@@ -1,37 +1,52 @@
 // A volatility surface of quotes: axes, cells and counts, as `VolSurface::from_points` of src/options/surface.rs makes them.
 #![tactic(auto)]
 
-ghost use Rattle.std.specs.Prelude.{◌≡◌, true, ◌∷◌, ◌++◌, suc, ◌+◌, ◌-◌, ◌≤◌, ◌<◌, T, eqb, length, take, drop, get_or, if◌then◌else◌};
+ghost use Rattle.std.specs.Prelude.{◌≡◌, Bool, true, ◌∷◌, ◌++◌, suc, ◌+◌, ◌-◌, ◌≤◌, ◌<◌, T, eqb, nat_lt};
+ghost use Rattle.std.specs.Prelude.{length, take, drop, get_or, position, Float, if◌then◌else◌};
 ghost use Rattle.std.specs.Float.{nan};
 ghost use Rattle.std.specs.Float.Ieee.Positive.{positive};
 ghost use Rattle.floats.specs.Operators.{decimal, ◌≺◌, ◌⊘◌};
-ghost use Rattle.grid.specs.Search.{first_where};
+ghost use Rattle.grid.specs.Search.{first_where, Rising};
 ghost use Rattle.grid.specs.Layout.{cell_at, values};
-ghost use Rattle.chart.specs.Quotes.{columns_of, quotes};
 ghost use Rattle.chart.specs.Axis.{insert, thinned, axis, place};
-ghost use Rattle.chart.specs.Cells.{source};
-ghost use Rattle.chart.specs.Steps.{axes_of, Alike, Pos, Ascending, reaches, OnAxis, OnAxes, Blank, Filed, held, CellsWritten};
-ghost use Rattle.chart.specs.Steps.{Planned, Accepted};
-ghost use Rattle.chart.specs.Build.{buffers_of, front, table, surface_of, Builds};
+ghost use Rattle.chart.specs.Steps.{Alike, Pos, Ascending, reaches, OnAxis, OnAxes, Blank, Filed, held, CellsWritten};
+ghost use Rattle.chart.specs.Steps.{Accepted};
+ghost use Rattle.chart.specs.Build.{front, table, surface_of, outcome, Builds};
+ghost use Rattle.admission.specs.Lent.{columns_in, buffers_in, SameBuffers};
+ghost use Rattle.surface.specs.Lent.{axes_in, quotes_in, OneLength, cell_of, count_of};
 
-use chart::Built;
+use admission::{Quotes, SurfaceBuffers};
+use chart::Lengths;
+use limits::Refusal;
 
-// The index of the first of the n values above x, or n: by halves, since they ascend.
-fn first_above(a: &[f64], n: usize, x: f64) -> usize
-    requires { (n ≤ length a.now) × Ascending (take n a.now) × T (positive x) }
-    ensures { result ≡ first_where (λ y. x ≺ y) (take n a.now) }
+// ---- an axis
+
+// The index of the first value that passes the test, or the length: by halves, since each after one that passes passes too.
+// std's `partition_point` would jump at each test, which goes either way: with it a build of 1,000 quotes takes a fifth more time. This moves `at` by a choice.
+fn first_passing<F: Fn(f64) -> bool>(values: &[f64], passes: F) -> usize
+    requires { F.IsAlwaysCallable passes }
+    ensures { (test : Float → Bool) → ((x : Float) (r : Bool) → F.post passes x r → r ≡ test x) → Rising test values.now
+        → result ≡ first_where test values.now }
 {
     let mut at = 0;
-    let mut size = n;
+    let mut size = values.len();
     while size > 0 {
         let rest = size / 2;
         let next = at + (size - rest);
         size = rest;
-        if x < a[next - 1] {} else {
+        if !passes(values[next - 1]) {
             at = next;
         }
     }
     at
+}
+
+// The index of the first value above x, or the length.
+fn first_above(values: &[f64], x: f64) -> usize
+    requires { Ascending values.now × T (positive x) }
+    ensures { result ≡ first_where (λ y. x ≺ y) values.now }
+{
+    first_passing(values, |y| x < y)
 }
 
 // Puts x at p and moves what stood from there up to n one place up.
@@ -39,15 +54,8 @@ fn open_gap(a: &mut [f64], p: usize, n: usize, x: f64)
     requires { (p ≤ n) × (n < length a.old) }
     ensures { a.new ≡ take p a.old ++ x ∷ (drop p (take n a.old) ++ drop (suc n) a.old) }
 {
-    let mut j = p;
-    let mut carry = x;
-    while j < n {
-        let y = a[j];
-        a[j] = carry;
-        carry = y;
-        j += 1;
-    }
-    a[n] = carry;
+    a[n] = x;
+    a[p..=n].rotate_right(1);
 }
 
 // Whether y is x, which is no zero, so that equal is the same.
@@ -63,54 +71,48 @@ fn stands(a: &[f64], p: usize, x: f64) -> bool
     requires { (p ≤ length a.now) × T (positive x) }
     ensures { result ≡ true → (0 < p) × (get_or a.now (p - 1) nan ≡ x) }
 {
-    if p == 0 {
-        return false;
-    }
-    same(a[p - 1], x)
+    p > 0 && same(a[p - 1], x)
 }
 
-// Puts x into the first n values, before the first one above it, where it does not stand yet, and returns how many they are then.
+// Puts x into the first n values, before the first one above it, where it does not stand yet, and returns how many they are then. n stands beside a,
+// since memory is fixed and the place for x is behind the values.
 fn insert_into(a: &mut [f64], n: usize, x: f64) -> usize
     requires { (n < length a.old) × Ascending (take n a.old) × T (positive x) }
     ensures { (result ≤ n + 1) × Ascending (take result a.new) × Alike (take result a.new) (insert x (take n a.old)) }
 {
-    let p = first_above(&a[..], n, x);
-    if stands(&a[..], p, x) {
+    let p = first_above(&a[..n], x);
+    if stands(a, p, x) {
         return n;
     }
     open_gap(a, p, n, x);
     n + 1
 }
 
-// The first n values of xs, sorted, each once, in the front of a, and how many they are.
-fn sort_into(a: &mut [f64], xs: &[f64], n: usize) -> usize
-    requires { (n ≤ length a.old) × (n ≤ length xs.now) × Pos (take n xs.now) }
-    ensures { (thinned (take result a.new) ≡ axis (take n xs.now)) × (result ≤ n) }
+// The values of xs, sorted, each once, in the front of a, and how many they are.
+fn sort_into(a: &mut [f64], xs: &[f64]) -> usize
+    requires { (length xs.now ≤ length a.old) × Pos xs.now }
+    ensures { (thinned (take result a.new) ≡ axis xs.now) × (result ≤ length xs.now) }
 {
     let mut kept = 0;
-    let mut i = 0;
-    while i < n {
-        kept = insert_into(a, kept, xs[i]);
-        i += 1;
+    for x in xs {
+        kept = insert_into(a, kept, *x);
     }
     kept
 }
 
-// Drops from the first n values, which are sorted, each that is too near the last one kept, and returns how many are left.
-fn thin_out(a: &mut [f64], n: usize) -> usize
-    requires { n ≤ length a.old }
-    ensures { (take result a.new ≡ thinned (take n a.old)) × (result ≤ n) }
+// Drops from sorted values each that is too near the last one kept, and returns how many are left, in the front of a.
+#[tactic(auto, unfolding(chart::specs::Axis::thinned, limits::proofs::Float::of_bits, limits::proofs::Float::round))]
+fn thin_out(a: &mut [f64]) -> usize
+    ensures { (take result a.new ≡ thinned a.old) × (result ≤ length a.old) }
 {
-    if n == 0 {
+    if a.is_empty() {
         return 0;
     }
     let mut last = a[0];
     let mut kept = 1;
-    let mut i = 1;
-    while i < n {
+    for i in 1..a.len() {
         let v = a[i];
-        i += 1;
-        if v - last < 1e-12 {} else {
+        if !(v - last < 1e-12) {
             a[kept] = v;
             kept += 1;
             last = v;
@@ -119,75 +121,68 @@ fn thin_out(a: &mut [f64], n: usize) -> usize
     kept
 }
 
-// The axis of the first n values of xs, in the front of a, and its length.
-fn make_axis(a: &mut [f64], xs: &[f64], n: usize) -> usize
-    requires { (n ≤ length a.old) × (n ≤ length xs.now) × Pos (take n xs.now) }
-    ensures { (take result a.new ≡ axis (take n xs.now)) × (result ≤ n) }
+// The axis of the values of xs, in the front of a, and its length.
+fn make_axis(a: &mut [f64], xs: &[f64]) -> usize
+    requires { (length xs.now ≤ length a.old) × Pos xs.now }
+    ensures { (take result a.new ≡ axis xs.now) × (result ≤ length a.new) }
 {
-    let kept = sort_into(a, xs, n);
-    thin_out(a, kept)
+    let kept = sort_into(a, xs);
+    thin_out(&mut a[..kept])
 }
 
+// ---- the cells of quotes on two axes
+
 // Whether the first axis value that takes x is a or stands before it, where there is one.
+#[tactic(auto, unfolding(limits::proofs::Float::of_bits, limits::proofs::Float::round))]
 fn reaches(a: f64, x: f64) -> bool
     ensures { result ≡ reaches a x }
 {
     x - a < 1e-12
 }
 
-// The index of the first axis value that takes x, which has one: by halves, since the axis ascends.
+// The index of the first axis value that takes x, which has one.
 fn place(axis: &[f64], x: f64) -> usize
     requires { OnAxis axis.now x }
     ensures { result ≡ place axis.now x }
 {
-    let mut at = 0;
-    let mut size = axis.len();
-    while size > 0 {
-        let rest = size / 2;
-        let next = at + (size - rest);
-        size = rest;
-        if reaches(axis[next - 1], x) {} else {
-            at = next;
-        }
-    }
-    at
+    first_passing(axis, |a| reaches(a, x))
 }
 
-// Where the cell of a quote stands, which has one: ks and ts are the axes.
-fn home(ks: &[f64], ts: &[f64], strike: f64, expiry: f64) -> usize
-    requires { OnAxis ts.now expiry × OnAxis ks.now strike × (length ts.now ≤ 32) × (length ks.now ≤ 64) }
-    ensures { (result ≡ cell_at (place ts.now expiry) (place ks.now strike)) × (result < 2048) }
+// Two axes: columns by strike, rows by expiry.
+#[derive(Clone, Copy)]
+struct Axes<'a> {
+    strikes: &'a [f64],
+    expiries: &'a [f64],
+}
+
+// Where the cell of a quote stands, which has one.
+fn home(axes: &Axes<'_>, strike: f64, expiry: f64) -> usize
+    requires on_axes { OnAxis axes.now.expiries.now expiry × OnAxis axes.now.strikes.now strike }
+    requires few_cells { (length axes.now.strikes.now ≤ 64) × (length axes.now.expiries.now ≤ 32) }
+    ensures { (result ≡ cell_at (place axes.now.expiries.now expiry) (place axes.now.strikes.now strike)) × (result < 2048) }
 {
-    let row = place(ts, expiry);
-    let column = place(ks, strike);
-    64 * row + column
+    64 * place(axes.expiries, expiry) + place(axes.strikes, strike)
+}
+
+// Of each cell: the volatilities filed in it, summed, and how many.
+#[derive(Drop)]
+struct Tally {
+    sums: [f64; 2048],
+    numbers: [u32; 2048],
 }
 
 // Files each quote in its cell: its volatility goes to the cell's sum, and one to its count.
-fn tally(
-    sums: &mut [f64],
-    numbers: &mut [u32],
-    strikes: &[f64],
-    expiries: &[f64],
-    volatilities: &[f64],
-    n: usize,
-    ks: &[f64],
-    ts: &[f64],
-)
-    requires ks_len_bound { (length ks.now ≤ 64) × (length ts.now ≤ 32) × (length sums.old ≡ 2048) × (length numbers.old ≡ 2048) }
-    requires n_bound { (n ≤ 1024) × (n ≤ length strikes.now) × (n ≤ length expiries.now) × (n ≤ length volatilities.now) }
-    requires on_axes { OnAxes (axes_of ks.now ts.now) (quotes (columns_of strikes.now expiries.now volatilities.now) n) }
-    requires blank { Blank sums.old numbers.old }
-    ensures { Filed (axes_of ks.now ts.now)
-        (quotes (columns_of strikes.now expiries.now volatilities.now) n)
-        sums.new numbers.new }
+fn file(tally: &mut Tally, quotes: &Quotes<'_>, axes: &Axes<'_>)
+    requires few_cells { (length axes.now.strikes.now ≤ 64) × (length axes.now.expiries.now ≤ 32) }
+    requires few { OneLength quotes.now × (length quotes.now.strikes.now ≤ 1024) }
+    requires on_axes { OnAxes (axes_in axes.now) (quotes_in quotes.now) }
+    requires blank { Blank tally.old.sums tally.old.numbers }
+    ensures { Filed (axes_in axes.now) (quotes_in quotes.now) tally.new.sums tally.new.numbers }
 {
-    let mut i = 0;
-    while i < n {
-        let at = home(ks, ts, strikes[i], expiries[i]);
-        sums[at] = sums[at] + volatilities[i];
-        numbers[at] = numbers[at] + 1;
-        i += 1;
+    for i in 0..quotes.strikes.len() {
+        let at = home(axes, quotes.strikes[i], quotes.expiries[i]);
+        tally.sums[at] += quotes.volatilities[i];
+        tally.numbers[at] += 1;
     }
 }
 
@@ -204,127 +199,76 @@ fn mean_or_last(last: f64, sum: f64, number: u32) -> f64
     if number == 0 { last } else { mean(sum, number) }
 }
 
-// The first counted of the n columns of the row at a, which those before it take their value from; 0 where none is counted.
-fn first_counted(numbers: &[u32], a: usize, n: usize) -> usize
-    requires { a + n ≤ length numbers.now }
-    ensures { result ≡ source (λ k. get_or numbers.now (a + k) 0) n 0 }
+// The first counted column of a row, which those before it take their value from.
+fn first_counted(numbers: &[u32]) -> Option<usize>
+    ensures { result ≡ position (λ n. nat_lt 0 n) numbers.now }
 {
-    let mut j = 0;
-    let at = loop {
-        if j >= n {
-            break 0;
-        }
-        if numbers[a + j] > 0 {
-            break j;
-        }
-        j += 1;
-    };
-    at
+    numbers.iter().position(|number| *number > 0)
 }
 
-// The cells of the row whose sums and counts stand at a.
-fn write_row(row: &mut [f64], sums: &[f64], numbers: &[u32], a: usize)
-    requires { (a + length row.old ≤ length sums.now) × (a + length row.old ≤ length numbers.now) }
+// The cells of a row with these sums and counts.
+fn write_row(row: &mut [f64], sums: &[f64], numbers: &[u32])
+    requires { (length sums.now ≡ length row.old) × (length numbers.now ≡ length row.old) }
     ensures { row.new ≡
-        values (held (λ k. get_or sums.now (a + k) nan) (λ k. get_or numbers.now (a + k) 0) (length row.old))
+        values (held (λ k. get_or sums.now k nan) (λ k. get_or numbers.now k 0) (length row.old))
         (length row.old) 0 }
 {
-    let n = row.len();
-    if n == 0 {
+    if row.is_empty() {
         return;
     }
-    let first = a + first_counted(numbers, a, n);
+    let first = first_counted(numbers).unwrap_or(0);
     let mut last = mean(sums[first], numbers[first]);
-    let mut j = 0;
-    while j < n {
-        let at = a + j;
-        last = mean_or_last(last, sums[at], numbers[at]);
-        row[j] = last;
-        j += 1;
+    for (j, cell) in row.iter_mut().enumerate() {
+        last = mean_or_last(last, sums[j], numbers[j]);
+        *cell = last;
     }
 }
 
-fn wide(x: u32) -> u64
-    ensures { result ≡ x }
+// The counts of a row.
+fn count_row(row: &mut [u64], numbers: &[u32])
+    requires { length numbers.now ≡ length row.old }
+    ensures { row.new ≡ values (λ k. get_or numbers.now k 0) (length row.old) 0 }
 {
-    x as u64
-}
-
-// The counts of the row that stands at a.
-fn count_row(row: &mut [u64], numbers: &[u32], a: usize)
-    requires { a + length row.old ≤ length numbers.now }
-    ensures { row.new ≡ values (λ k. get_or numbers.now (a + k) 0) (length row.old) 0 }
-{
-    let n = row.len();
-    let mut j = 0;
-    while j < n {
-        row[j] = wide(numbers[a + j]);
-        j += 1;
+    for (j, count) in row.iter_mut().enumerate() {
+        *count = u64::from(numbers[j]);
     }
 }
 
-// The rows of the grid, each lent as a part that starts in its middle.
-fn write_rows(grid: &mut [f64], sums: &[f64], numbers: &[u32], rows: usize, columns: usize)
-    requires { (2048 ≤ length grid.old) × (length sums.now ≡ 2048) × (length numbers.now ≡ 2048) × (rows ≤ 32) × (columns ≤ 64) }
-    ensures { grid.new ≡
-        table rows columns (λ i. held (λ k. get_or sums.now (cell_at i k) nan) (λ k. get_or numbers.now (cell_at i k) 0) columns)
-        grid.old }
+// The rows of the grid and of the counts, each lent as a part that starts in its middle.
+#[tactic(auto, unfolding(chart::specs::Build::table))]
+fn write_rows(grid: &mut [f64], counts: &mut [u64], tally: &Tally, rows: usize, columns: usize)
+    requires { (2048 ≤ length grid.old) × (2048 ≤ length counts.old) × (rows ≤ 32) × (columns ≤ 64) }
+    ensures cells { grid.new ≡ table rows columns (cell_of tally.now columns) grid.old }
+    ensures counted { counts.new ≡ table rows columns (count_of tally.now) counts.old }
 {
-    let mut i = 0;
-    while i < rows {
-        let a = 64 * i;
-        let e = a + columns;
-        write_row(&mut grid[a..e], sums, numbers, a);
-        i += 1;
+    for i in 0..rows {
+        let start = 64 * i;
+        let end = start + columns;
+        let numbers = &tally.numbers[start..end];
+        write_row(&mut grid[start..end], &tally.sums[start..end], numbers);
+        count_row(&mut counts[start..end], numbers);
     }
 }
 
-// The rows of the counts, the same way.
-fn count_rows(counts: &mut [u64], numbers: &[u32], rows: usize, columns: usize)
-    requires { (2048 ≤ length counts.old) × (length numbers.now ≡ 2048) × (rows ≤ 32) × (columns ≤ 64) }
-    ensures { counts.new ≡ table rows columns (λ i k. get_or numbers.now (cell_at i k) 0) counts.old }
+// The cells and counts of quotes, on two axes.
+fn fill_cells(grid: &mut [f64], counts: &mut [u64], quotes: &Quotes<'_>, axes: &Axes<'_>)
+    requires in_bounds { (2048 ≤ length grid.old) × (2048 ≤ length counts.old) × (length axes.now.strikes.now ≤ 64) × (length axes.now.expiries.now ≤ 32) }
+    requires few { OneLength quotes.now × (length quotes.now.strikes.now ≤ 1024) }
+    requires on_axes { OnAxes (axes_in axes.now) (quotes_in quotes.now) }
+    ensures { CellsWritten (axes_in axes.now) (quotes_in quotes.now) grid.old counts.old grid.new counts.new }
 {
-    let mut r = 0;
-    while r < rows {
-        let a = 64 * r;
-        let end = a + columns;
-        count_row(&mut counts[a..end], numbers, a);
-        r += 1;
-    }
-}
-
-// The cells and counts of the first n quotes, on two axes.
-fn fill_cells(
-    grid: &mut [f64],
-    counts: &mut [u64],
-    strikes: &[f64],
-    expiries: &[f64],
-    volatilities: &[f64],
-    n: usize,
-    ks: &[f64],
-    ts: &[f64],
-)
-    requires in_bounds { (2048 ≤ length grid.old) × (2048 ≤ length counts.old) × (length ks.now ≤ 64) × (length ts.now ≤ 32) }
-    requires n_bound { (n ≤ 1024) × (n ≤ length strikes.now) × (n ≤ length expiries.now) × (n ≤ length volatilities.now) }
-    requires on_axes { OnAxes (axes_of ks.now ts.now) (quotes (columns_of strikes.now expiries.now volatilities.now) n) }
-    ensures { CellsWritten (axes_of ks.now ts.now)
-        (quotes (columns_of strikes.now expiries.now volatilities.now) n)
-        grid.old counts.old grid.new counts.new }
-{
-    let mut sums = [0.0f64; 2048];
-    let mut numbers = [0u32; 2048];
-    tally(
-        &mut sums,
-        &mut numbers,
-        strikes,
-        expiries,
-        volatilities,
-        n,
-        ks,
-        ts,
+    let mut tally = Tally {
+        sums: [0.0; 2048],
+        numbers: [0; 2048],
+    };
+    file(&mut tally, quotes, axes);
+    write_rows(
+        grid,
+        counts,
+        &tally,
+        axes.expiries.len(),
+        axes.strikes.len(),
     );
-    write_rows(grid, &sums, &numbers, ts.len(), ks.len());
-    count_rows(counts, &numbers, ts.len(), ks.len());
 }
 
 // Copies src to the front of dst.
@@ -332,129 +276,44 @@ fn copy_front(dst: &mut [f64], src: &[f64])
     requires { length src.now ≤ length dst.old }
     ensures { dst.new ≡ front src.now dst.old }
 {
-    let n = src.len();
-    let mut i = 0;
-    while i < n {
-        dst[i] = src[i];
-        i += 1;
-    }
-}
-
-// What a build is to write: its number, 0 where it is accepted, and the lengths of its axes.
-#[derive(Drop)]
-struct Plan {
-    number: u64,
-    columns: usize,
-    rows: usize,
-}
-
-// Every check of a build, and both axes in the fronts of ks and ts. Axes are made of quotes in range alone, so the checks before them return.
-fn prepare(
-    ks: &mut [f64],
-    ts: &mut [f64],
-    strikes: &[f64],
-    expiries: &[f64],
-    volatilities: &[f64],
-    kept: u64,
-    small: bool,
-) -> Plan
-    requires { (length ks.old ≡ 1024) × (length ts.old ≡ 1024) }
-    ensures { Planned (columns_of strikes.now expiries.now volatilities.now) kept small
-        result.number result.columns result.rows ks.new ts.new }
-{
-    let number = admission::build_number(strikes, expiries, volatilities, kept, small);
-    if number != 0 {
-        return Plan {
-            number,
-            columns: 0,
-            rows: 0,
-        };
-    }
-    let columns = make_axis(ks, strikes, kept as usize);
-    let rows = make_axis(ts, expiries, kept as usize);
-    Plan {
-        number: admission::axes_number(columns, rows),
-        columns,
-        rows,
-    }
+    dst[..src.len()].copy_from_slice(src);
 }
 
 // Writes a surface that no check turned down.
-fn write(
-    strike_axis: &mut [f64],
-    expiry_axis: &mut [f64],
-    grid: &mut [f64],
-    counts: &mut [u64],
-    strikes: &[f64],
-    expiries: &[f64],
-    volatilities: &[f64],
-    n: usize,
-    ks: &[f64],
-    ts: &[f64],
-)
-    requires { Accepted (columns_of strikes.now expiries.now volatilities.now) n
-        (buffers_of strike_axis.old expiry_axis.old grid.old counts.old) ks.now ts.now }
-    ensures { buffers_of strike_axis.new expiry_axis.new grid.new counts.new ≡
-        surface_of (quotes (columns_of strikes.now expiries.now volatilities.now) n)
-        (buffers_of strike_axis.old expiry_axis.old grid.old counts.old) }
+fn write(buffers: &mut SurfaceBuffers<'_>, quotes: &Quotes<'_>, axes: &Axes<'_>)
+    requires one_length { OneLength quotes.now }
+    requires accepted { Accepted (quotes_in quotes.now) (buffers_in buffers.old) axes.now.strikes.now axes.now.expiries.now }
+    ensures same_memory { SameBuffers buffers.new buffers.old }
+    ensures written { buffers_in buffers.new ≡ surface_of (quotes_in quotes.now) (buffers_in buffers.old) }
 {
-    fill_cells(grid, counts, strikes, expiries, volatilities, n, ks, ts);
-    copy_front(strike_axis, ks);
-    copy_front(expiry_axis, ts);
+    fill_cells(buffers.grid, buffers.counts, quotes, axes);
+    copy_front(buffers.strike_axis, axes.strikes);
+    copy_front(buffers.expiry_axis, axes.expiries);
 }
 
-// Builds the surface of the columns' first `count` quotes.
+// Builds the surface of the columns' first `count` quotes. Axes are made of quotes in range alone, so the checks before them return.
 pub fn build(
-    strikes: &[f64],
-    expiries: &[f64],
-    volatilities: &[f64],
+    quotes: &Quotes<'_>,
     count: u64,
-    strike_axis: &mut [f64],
-    expiry_axis: &mut [f64],
-    grid: &mut [f64],
-    counts: &mut [u64],
-) -> Built
-    ensures { Builds (columns_of strikes.now expiries.now volatilities.now) count
-        (buffers_of strike_axis.old expiry_axis.old grid.old counts.old) result
-        (buffers_of strike_axis.new expiry_axis.new grid.new counts.new) }
+    buffers: &mut SurfaceBuffers<'_>,
+) -> Result<Lengths, Refusal>
+    ensures same_memory { SameBuffers buffers.new buffers.old }
+    ensures builds { Builds (columns_in quotes.now) count (buffers_in buffers.old) (outcome result) (buffers_in buffers.new) }
 {
-    let small = admission::is_small(
-        strike_axis.len(),
-        expiry_axis.len(),
-        grid.len(),
-        counts.len(),
-    );
-    let mut ks = [0.0f64; 1024];
-    let mut ts = [0.0f64; 1024];
-    let p = prepare(
-        &mut ks,
-        &mut ts,
-        strikes,
-        expiries,
-        volatilities,
-        count,
-        small,
-    );
-    let number = p.number;
-    if number != 0 {
-        return Built::Refused { number };
-    }
-    let columns = p.columns;
-    let rows = p.rows;
-    write(
-        strike_axis,
-        expiry_axis,
-        grid,
-        counts,
-        strikes,
-        expiries,
-        volatilities,
-        count as usize,
-        &ks[..columns],
-        &ts[..rows],
-    );
-    Built::Surface {
+    admission::check_quotes(quotes, count, admission::is_small(buffers))?;
+    let quotes = quotes.first(count as usize);
+    let mut strikes = [0.0f64; 1024];
+    let mut expiries = [0.0f64; 1024];
+    let columns = make_axis(&mut strikes, quotes.strikes);
+    let rows = make_axis(&mut expiries, quotes.expiries);
+    admission::check_axes(columns, rows)?;
+    let axes = Axes {
+        strikes: &strikes[..columns],
+        expiries: &expiries[..rows],
+    };
+    write(buffers, &quotes, &axes);
+    Ok(Lengths {
         strikes: columns,
         expiries: rows,
-    }
+    })
 }

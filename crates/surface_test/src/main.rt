@@ -2,75 +2,28 @@
 // A call is the number of its words, its kind, and what the functions `run_..` say. Every entry of every lent buffer goes into a digest, in use or not.
 #![tactic(auto)]
 
-ghost use Rattle.std.specs.Prelude.{◌+◌, ◌<◌, ◌≤◌, length};
+ghost use Rattle.std.specs.Prelude.{◌≤◌, length};
 
-use chart::Built;
-use gaps::Filling;
-use grid::Reading;
-use ledger::{AtTheMoney, Book};
+use admission::{Quotes, SurfaceBuffers};
+use chart::Lengths;
+use frames::bits_of;
+use ledger::{Book, Money, Opening};
+use limits::Refusal;
+use outcomes::number_of;
+use readings::Surface;
+use vectors::Words;
 
 const STDIN_FILENO: i32 = 0;
 
 const STDOUT_FILENO: i32 = 1;
 
-fn wide(b: u8) -> u64 {
-    b as u64
-}
+// ---- words in and out
 
-fn digit(b: u8) -> u64 {
-    if b < 48 {
-        return 0;
-    }
-    if b < 58 {
-        return wide(b - 48);
-    }
-    if b < 65 {
-        return 0;
-    }
-    if b < 71 {
-        return wide(b - 55);
-    }
-    0
-}
-
-// The word at place k; 0 past the end.
-fn word(input: &[u8], k: usize) -> u64 {
-    if k > 4096 {
-        return 0;
-    }
-    let at = 17 * k;
-    if input.len() < at + 16 {
-        return 0;
-    }
-    let mut v: u64 = 0;
-    let mut i = 0;
-    while i < 16 {
-        v = (v << 4) | digit(input[at + i]);
-        i += 1;
-    }
-    v
-}
-
-// The word at place k as a number of at most `most`.
-fn number(input: &[u8], k: usize, most: usize) -> usize
+// The next word as a number of at most `most`.
+fn number(words: &mut Words<'_>, most: usize) -> usize
     ensures { result ≤ most }
 {
-    let v = word(input, k);
-    if v < most as u64 { v as usize } else { most }
-}
-
-fn float(bits: u64) -> f64 {
-    if bits % 0x8000000000000000 > 0x7FF0000000000000 {
-        return 0.0 / 0.0;
-    }
-    f64::from_bits(bits)
-}
-
-fn bits(x: f64) -> u64 {
-    if x != x {
-        return 0x7FF8000000000000;
-    }
-    f64::to_bits(x)
+    words.word().min(most as u64) as usize
 }
 
 fn say(n: u64) {
@@ -78,381 +31,264 @@ fn say(n: u64) {
     io::write_all(STDOUT_FILENO, b"\n");
 }
 
-fn mixed(digest: u64, n: u64) -> u64 {
-    std::num::wrapping_add_u64(((digest << 5) | (digest >> 59)) ^ n, 0x9E3779B97F4A7C15)
-}
-
-fn say_floats(a: &[f64]) {
-    let mut digest: u64 = 0;
-    let mut i = 0;
-    while i < a.len() {
-        digest = mixed(digest, bits(a[i]));
-        i += 1;
+fn say_all(words: &[u64]) {
+    for n in words {
+        say(*n);
     }
-    say(digest);
 }
 
-fn say_counts(a: &[u64]) {
-    let mut digest: u64 = 0;
-    let mut i = 0;
-    while i < a.len() {
-        digest = mixed(digest, a[i]);
-        i += 1;
+fn mixed(digest: u64, n: u64) -> u64 {
+    (digest.rotate_left(5) ^ n).wrapping_add(0x9E3779B97F4A7C15)
+}
+
+// A digest of the words of the entries.
+fn say_digest<T: Copy, F: Fn(T) -> u64>(entries: &[T], word: F)
+    requires { F.IsAlwaysCallable word }
+{
+    let mut digest = 0;
+    for entry in entries {
+        digest = mixed(digest, word(*entry));
     }
     say(digest);
 }
 
 // The first n values.
-fn say_axis(a: &[f64], n: usize) {
-    let mut i = 0;
-    while i < n {
-        if i < a.len() {
-            say(bits(a[i]));
-        }
-        i += 1;
+fn say_axis(axis: &[f64], n: usize) {
+    for x in axis.iter().take(n) {
+        say(bits_of(*x));
     }
 }
 
-// The cells of a small surface, each with its count.
-fn say_cells(grid: &[f64], counts: &[u64], strikes: usize, expiries: usize) {
-    let n = grid.len();
-    if counts.len() < n {
-        return;
-    }
-    let mut p = 0;
-    while p < n {
-        if (p / 64 < expiries) & (p % 64 < strikes) {
-            say(bits(grid[p]));
-            say(counts[p]);
+// ---- what is lent
+
+// Columns of quotes, of which the first are filled.
+#[derive(Drop)]
+struct Columns {
+    strikes: [f64; 1024],
+    expiries: [f64; 1024],
+    volatilities: [f64; 1024],
+}
+
+impl Columns {
+    // The words to come are the first n quotes.
+    fn read(words: &mut Words<'_>, n: usize) -> Columns
+        requires { n ≤ 1024 }
+    {
+        let mut columns = Columns {
+            strikes: [0.0; 1024],
+            expiries: [0.0; 1024],
+            volatilities: [0.0; 1024],
+        };
+        for i in 0..n {
+            columns.strikes[i] = words.float();
+            columns.expiries[i] = words.float();
+            columns.volatilities[i] = words.float();
         }
-        p += 1;
+        columns
     }
 }
 
-// Three columns from the words from k on.
-fn load(
-    strikes: &mut [f64],
-    expiries: &mut [f64],
-    volatilities: &mut [f64],
-    input: &[u8],
-    k: usize,
-    n: usize,
-)
-    requires n_in_bounds { (n ≤ length strikes.old) × (n ≤ length expiries.old) × (n ≤ length volatilities.old) }
-    requires k_bound { (k ≤ 100000) × (n ≤ 1024) }
-{
-    let mut i = 0;
-    while i < n {
-        let at = k + 3 * i;
-        strikes[i] = float(word(input, at));
-        expiries[i] = float(word(input, at + 1));
-        volatilities[i] = float(word(input, at + 2));
-        i += 1;
-    }
+// The buffers of a surface, which hold 7 everywhere at first.
+#[derive(Drop)]
+struct Buffers {
+    strike_axis: [f64; 64],
+    expiry_axis: [f64; 32],
+    grid: [f64; 2048],
+    counts: [u64; 2048],
 }
 
-// Puts floats at their places in a buffer: pairs of words from k on.
-fn poke(a: &mut [f64], input: &[u8], k: usize, n: usize)
-    requires { (k ≤ 100000) × (n ≤ 4096) }
-{
-    let mut i = 0;
-    while i < n {
-        let at = number(input, k + 2 * i, 4096);
-        let v = float(word(input, k + 2 * i + 1));
-        i += 1;
-        if at < a.len() {
-            a[at] = v;
+impl Buffers {
+    fn fresh() -> Buffers {
+        Buffers {
+            strike_axis: [7.0; 64],
+            expiry_axis: [7.0; 32],
+            grid: [7.0; 2048],
+            counts: [7; 2048],
         }
     }
-}
 
-fn say_reading(r: Reading) {
-    match r {
-        Reading::Value { volatility } => {
-            say(0);
-            say(bits(volatility));
+    fn surface(&self, lengths: Lengths) -> Surface<'_> {
+        Surface {
+            strike_axis: &self.strike_axis,
+            expiry_axis: &self.expiry_axis,
+            grid: &self.grid,
+            strikes: lengths.strikes,
+            expiries: lengths.expiries,
         }
-        Reading::Refused { number } => {
-            say(number);
-            say(0);
+    }
+
+    fn say_digests(&self) {
+        say_digest(&self.strike_axis, bits_of);
+        say_digest(&self.expiry_axis, bits_of);
+        say_digest(&self.grid, bits_of);
+        say_digest(&self.counts, |n| n);
+    }
+
+    // The cells of a small surface, each with its count.
+    fn say_cells(&self, lengths: Lengths) {
+        for (place, (x, count)) in self.grid.iter().zip(&self.counts).enumerate() {
+            if place / 64 < lengths.expiries && place % 64 < lengths.strikes {
+                say_all(&[bits_of(*x), *count]);
+            }
         }
     }
 }
 
-// Reads: a kind, a strike and an expiry each, from k on.
-fn reads(
-    columns: &[f64],
-    rows: &[f64],
-    grid: &[f64],
-    strikes: usize,
-    expiries: usize,
-    input: &[u8],
-    k: usize,
-    n: usize,
-)
-    requires { (k ≤ 100000) × (n ≤ 1024) }
-{
-    let mut i = 0;
-    while i < n {
-        let at = k + 3 * i;
-        let strike = float(word(input, at + 1));
-        let expiry = float(word(input, at + 2));
-        if word(input, at) == 0 {
-            say_reading(readings::interpolate(
-                columns, rows, grid, strikes, expiries, strike, expiry,
-            ));
-        } else {
-            say_reading(readings::middle_strike(columns, rows, grid, strikes, expiries, expiry));
+// Puts n floats at their places in a buffer: pairs of words.
+fn poke(buffer: &mut [f64], words: &mut Words<'_>, n: usize) {
+    for _ in 0..n {
+        let at = words.word() as usize;
+        let x = words.float();
+        if at < buffer.len() {
+            buffer[at] = x;
         }
-        i += 1;
     }
 }
 
-fn say_money(r: AtTheMoney) {
-    match r {
-        AtTheMoney::Value { money } => {
-            say(0);
-            say(bits(money.strike));
-            say(bits(money.volatility));
-        }
-        AtTheMoney::Refused { number } => {
-            say(number);
-            say(0);
-            say(0);
-        }
+// ---- readings
+
+fn say_reading(reading: Result<f64, Refusal>) {
+    say_all(&[number_of(reading), bits_of(reading.unwrap_or(0.0))]);
+}
+
+// n reads: a kind, a strike and an expiry each.
+fn reads(surface: &Surface<'_>, words: &mut Words<'_>, n: usize) {
+    for _ in 0..n {
+        let kind = words.word();
+        let strike = words.float();
+        let expiry = words.float();
+        say_reading(match kind {
+            0 => surface.interpolate(strike, expiry),
+            _ => surface.middle_strike(expiry),
+        });
     }
+}
+
+const NO_MONEY: Money = Money {
+    strike: 0.0,
+    volatility: 0.0,
+};
+
+fn say_money(read: Result<Money, Refusal>) {
+    let money = read.unwrap_or(NO_MONEY);
+    say_all(&[
+        number_of(read),
+        bits_of(money.strike),
+        bits_of(money.volatility),
+    ]);
 }
 
 // A record: spot, rate, kept, refused, heard, evaluations.
-fn record(input: &[u8], k: usize) -> Book
-    requires { k ≤ 200000 }
-{
-    rows::book_of(
-        float(word(input, k)),
-        float(word(input, k + 1)),
-        [
-            word(input, k + 2),
-            word(input, k + 3),
-            word(input, k + 4),
-            word(input, k + 5),
-        ],
-    )
+fn record(words: &mut Words<'_>) -> Book {
+    let opening = Opening {
+        spot: words.float(),
+        rate: words.float(),
+    };
+    let totals = [words.word(), words.word(), words.word(), words.word()];
+    rows::book_of(opening, totals)
 }
 
-// Reads at the money: a record and an expiry each, from k on.
-fn moneys(
-    columns: &[f64],
-    lines: &[f64],
-    grid: &[f64],
-    strikes: usize,
-    expiries: usize,
-    input: &[u8],
-    k: usize,
-    n: usize,
-)
-    requires { (k ≤ 100000) × (n ≤ 1024) }
-{
-    let mut i = 0;
-    while i < n {
-        let at = k + 7 * i;
-        let book = record(input, at);
-        let expiry = float(word(input, at + 6));
-        say_money(money::at_the_money(book, columns, lines, grid, strikes, expiries, expiry));
-        i += 1;
+// n reads at the money: a record and an expiry each.
+fn moneys(surface: &Surface<'_>, words: &mut Words<'_>, n: usize) {
+    for _ in 0..n {
+        let book = record(words);
+        let expiry = words.float();
+        say_money(money::at_the_money(book, surface, expiry));
     }
 }
 
-// Lends the first entries of each column and buffer, as many as words 1 to 8 say, and builds.
-fn build_part(
-    strikes: &[f64],
-    expiries: &[f64],
-    volatilities: &[f64],
-    columns: &mut [f64],
-    rows: &mut [f64],
-    grid: &mut [f64],
-    counts: &mut [u64],
-    input: &[u8],
-) -> Built {
-    let a = number(input, 1, strikes.len());
-    let b = number(input, 2, expiries.len());
-    let c = number(input, 3, volatilities.len());
-    let n = word(input, 4);
-    let d = number(input, 5, columns.len());
-    let e = number(input, 6, rows.len());
-    let f = number(input, 7, grid.len());
-    let g = number(input, 8, counts.len());
-    surface::build(
-        &strikes[..a],
-        &expiries[..b],
-        &volatilities[..c],
-        n,
-        &mut columns[..d],
-        &mut rows[..e],
-        &mut grid[..f],
-        &mut counts[..g],
-    )
-}
-
-// The number, or the surface and r reads of it from word k on.
-fn say_built(
-    built: Built,
-    columns: &[f64],
-    rows: &[f64],
-    grid: &[f64],
-    counts: &[u64],
-    input: &[u8],
-    k: usize,
-    r: usize,
-)
-    requires { (k ≤ 100000) × (r ≤ 1024) }
-{
-    match built {
-        Built::Refused { number } => {
-            say(number);
-        }
-        Built::Surface { strikes, expiries } => {
-            say(0);
-            say(strikes as u64);
-            say(expiries as u64);
-            say_axis(columns, strikes);
-            say_axis(rows, expiries);
-            if strikes < 9 {
-                say_cells(grid, counts, strikes, expiries);
-            }
-            reads(columns, rows, grid, strikes, expiries, input, k, r);
-        }
-    }
-}
-
-// Builds from the columns into fresh buffers, which hold 7 everywhere, and reads what was built.
-fn run_loaded(
-    strikes: &[f64],
-    expiries: &[f64],
-    volatilities: &[f64],
-    input: &[u8],
-    k: usize,
-    r: usize,
-)
-    requires { (k ≤ 100000) × (r ≤ 1024) }
-{
-    let mut columns = [7.0f64; 64];
-    let mut rows = [7.0f64; 32];
-    let mut grid = [7.0f64; 2048];
-    let mut counts = [7u64; 2048];
-    let built = build_part(
-        strikes,
-        expiries,
-        volatilities,
-        &mut columns,
-        &mut rows,
-        &mut grid,
-        &mut counts,
-        input,
-    );
-    say_floats(&columns);
-    say_floats(&rows);
-    say_floats(&grid);
-    say_counts(&counts);
-    say_built(built, &columns, &rows, &grid, &counts, input, k, r);
-}
+// ---- the calls
 
 // 1: how many entries are lent of the three columns, the count, how many of the four buffers, m, r; m quotes; r reads of the surface.
-fn run_build(input: &[u8]) {
-    let m = number(input, 9, 1024);
-    let r = number(input, 10, 1024);
-    let mut strikes = [0.0f64; 1024];
-    let mut expiries = [0.0f64; 1024];
-    let mut volatilities = [0.0f64; 1024];
-    load(&mut strikes, &mut expiries, &mut volatilities, input, 11, m);
-    run_loaded(&strikes, &expiries, &volatilities, input, 11 + 3 * m, r);
+fn run_build(words: &mut Words<'_>) {
+    let strikes = number(words, 1024);
+    let expiries = number(words, 1024);
+    let volatilities = number(words, 1024);
+    let count = words.word();
+    let strike_axis = number(words, 64);
+    let expiry_axis = number(words, 32);
+    let grid = number(words, 2048);
+    let counts = number(words, 2048);
+    let m = number(words, 1024);
+    let r = number(words, 1024);
+    let columns = Columns::read(words, m);
+    let mut buffers = Buffers::fresh();
+    let quotes = Quotes {
+        strikes: &columns.strikes[..strikes],
+        expiries: &columns.expiries[..expiries],
+        volatilities: &columns.volatilities[..volatilities],
+    };
+    let mut lent = SurfaceBuffers {
+        strike_axis: &mut buffers.strike_axis[..strike_axis],
+        expiry_axis: &mut buffers.expiry_axis[..expiry_axis],
+        grid: &mut buffers.grid[..grid],
+        counts: &mut buffers.counts[..counts],
+    };
+    let built = surface::build(&quotes, count, &mut lent);
+    buffers.say_digests();
+    say_built(built, &buffers, words, r);
 }
 
-fn fill_part(grid: &mut [f64], input: &[u8]) {
-    let z = 0;
-    let strikes = number(input, 1, 4096);
-    let expiries = number(input, 2, 4096);
-    let f = number(input, 3, grid.len());
-    match filler::fill_gaps(&mut grid[z..f], strikes, expiries) {
-        Filling::Done => {
-            say(0);
-        }
-        Filling::Refused { number } => {
-            say(number);
-        }
+// The number, or the surface and r reads of it.
+fn say_built(built: Result<Lengths, Refusal>, buffers: &Buffers, words: &mut Words<'_>, r: usize) {
+    say(number_of(built));
+    let Ok(lengths) = built else {
+        return;
+    };
+    say_all(&[lengths.strikes as u64, lengths.expiries as u64]);
+    say_axis(&buffers.strike_axis, lengths.strikes);
+    say_axis(&buffers.expiry_axis, lengths.expiries);
+    if lengths.strikes < 9 {
+        buffers.say_cells(lengths);
     }
+    reads(&buffers.surface(lengths), words, r);
 }
 
 // 2: strikes, expiries, how much of the grid is lent, m; m cells by place. Every other cell is 7.
-fn run_fill(input: &[u8]) {
-    let mut grid = [7.0f64; 2048];
-    let m = number(input, 4, 4096);
-    poke(&mut grid, input, 5, m);
-    fill_part(&mut grid, input);
-    say_floats(&grid);
-}
-
-// r reads, from word k on, of the first entries of two axes and a grid, as many as words 3 to 5 say.
-fn read_part(columns: &[f64], rows: &[f64], grid: &[f64], input: &[u8], k: usize, r: usize)
-    requires { (k ≤ 100000) × (r ≤ 1024) }
-{
-    let z = 0;
-    let strikes = number(input, 1, 4096);
-    let expiries = number(input, 2, 4096);
-    let a = number(input, 3, columns.len());
-    let b = number(input, 4, rows.len());
-    let c = number(input, 5, grid.len());
-    if word(input, 0) == 4 {
-        moneys(
-            &columns[z..a],
-            &rows[z..b],
-            &grid[z..c],
-            strikes,
-            expiries,
-            input,
-            k,
-            r,
-        );
-    } else {
-        reads(
-            &columns[z..a],
-            &rows[z..b],
-            &grid[z..c],
-            strikes,
-            expiries,
-            input,
-            k,
-            r,
-        );
-    }
+fn run_fill(words: &mut Words<'_>) {
+    let strikes = number(words, 4096);
+    let expiries = number(words, 4096);
+    let lent = number(words, 2048);
+    let m = number(words, 4096);
+    let mut grid = [7.0; 2048];
+    poke(&mut grid, words, m);
+    say(number_of(filler::fill_gaps(&mut grid[..lent], strikes, expiries)));
+    say_digest(&grid, bits_of);
 }
 
 // 3: strikes, expiries, how much of both axes and of the grid is lent, three numbers of pokes, r; the pokes of the axes and the grid; r reads.
 // 4: the same, with reads at the money.
-fn run_reads(input: &[u8]) {
-    let mut columns = [7.0f64; 64];
-    let mut rows = [7.0f64; 32];
-    let mut grid = [7.0f64; 2048];
-    let x = number(input, 6, 64);
-    let y = number(input, 7, 64);
-    let w = number(input, 8, 4096);
-    let r = number(input, 9, 1024);
-    let a = 10 + 2 * x;
-    let b = a + 2 * y;
-    let c = b + 2 * w;
-    poke(&mut columns, input, 10, x);
-    poke(&mut rows, input, a, y);
-    poke(&mut grid, input, b, w);
-    read_part(&columns, &rows, &grid, input, c, r);
+fn run_reads(words: &mut Words<'_>, kind: u64) {
+    let strikes = number(words, 4096);
+    let expiries = number(words, 4096);
+    let strike_axis = number(words, 64);
+    let expiry_axis = number(words, 32);
+    let grid = number(words, 2048);
+    let pokes = [number(words, 64), number(words, 64), number(words, 4096)];
+    let r = number(words, 1024);
+    let mut buffers = Buffers::fresh();
+    poke(&mut buffers.strike_axis, words, pokes[0]);
+    poke(&mut buffers.expiry_axis, words, pokes[1]);
+    poke(&mut buffers.grid, words, pokes[2]);
+    let surface = Surface {
+        strike_axis: &buffers.strike_axis[..strike_axis],
+        expiry_axis: &buffers.expiry_axis[..expiry_axis],
+        grid: &buffers.grid[..grid],
+        strikes,
+        expiries,
+    };
+    match kind {
+        4 => moneys(&surface, words, r),
+        _ => reads(&surface, words, r),
+    }
 }
 
 fn command(input: &[u8]) {
-    let kind = word(input, 0);
-    if kind == 1 {
-        run_build(input);
-    } else if kind == 2 {
-        run_fill(input);
-    } else {
-        run_reads(input);
+    let mut words = Words { text: input };
+    match words.word() {
+        1 => run_build(&mut words),
+        2 => run_fill(&mut words),
+        kind => run_reads(&mut words, kind),
     }
 }
 
@@ -460,36 +296,27 @@ fn command(input: &[u8]) {
 fn call(space: &mut [u8], n: usize)
     requires { (n ≤ 3855) × (65536 ≤ length space.old) }
 {
-    let z = 0;
-    let e = 17 * n;
-    io::read_full(STDIN_FILENO, &mut space[z..e]);
-    command(&space[z..e]);
+    let input = &mut space[..17 * n];
+    io::read_full(STDIN_FILENO, input);
+    command(input);
 }
 
 // A call's number of words; 0 at the end.
 fn size() -> usize
     ensures { result ≤ 3855 }
 {
-    let mut head = [0u8; 17];
+    let mut head = [0; 17];
     io::read_full(STDIN_FILENO, &mut head);
-    number(&head, 0, 3855)
-}
-
-fn run(space: &mut [u8])
-    requires { 65536 ≤ length space.old }
-{
-    let mut calls: usize = 0;
-    while calls < 100000 {
-        let n = size();
-        if n == 0 {
-            return;
-        }
-        call(space, n);
-        calls += 1;
-    }
+    number(&mut Words { text: &head }, 3855)
 }
 
 fn main() {
     let mut space = io::large_buffer();
-    run(&mut space);
+    for _ in 0..100000 {
+        let n = size();
+        if n == 0 {
+            return;
+        }
+        call(&mut space, n);
+    }
 }

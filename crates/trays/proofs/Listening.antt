@@ -1,5 +1,5 @@
 -- A list heard in a loop: what is left of it, heard from where the book stands, ends where the whole list does. Assumes nothing.
-use mathlib.Core.Path.{◌≡◌, refl, ap}
+use mathlib.Core.Path.{◌≡◌, refl}
 use mathlib.Core.Bool.{Bool}
 use mathlib.Core.List.{List, [], ◌∷◌}
 use Prim.Native.Nat.{ℕ, zero, suc, ◌+◌, ◌-◌, ◌≤◌, ◌<◌}
@@ -15,7 +15,7 @@ use Rattle.ledger.specs.Book.{Columns}
 use Rattle.ledger.specs.Fold.{after, along}
 use Rattle.ledger.specs.Claim.{Ledger, hear, reply}
 use Rattle.ledger.specs.Calls.{Offers}
-use Rattle.trays.specs.Tray.{offer_of, offer_at, offers, written, numbers_of, evidence_of, Answers, answers, handed_out}
+use Rattle.trays.specs.Tray.{offer_of, offer_at, written, numbers_of, evidence_of, Answers, answers, handed_out}
 use Rattle.ledger.specs.declared.Book.{Book}
 use Rattle.ledger.specs.declared.Heard.{Heard}
 use Rattle.ledger.specs.declared.Offer.{Offer}
@@ -50,13 +50,6 @@ module _ (kinds : List (List Bool)) (figures : List (List Float)) where
   pub record Going (n i : ℕ) (l : Ledger) (a : Answers) (L : Ledger) (A : Answers) : Type 0 where
     pub ledger : after (hear bsm) l (rest n i) ≡ L
     pub answers : handed_out i (along (hear bsm) (reply bsm) l (rest n i)) a ≡ A
-
-  pub begins : (n : ℕ) (l : Ledger) (a : Answers)
-      → Going n 0 l a (after (hear bsm) l (offers kinds figures n)) (handed_out 0 (along (hear bsm) (reply bsm) l (offers kinds figures n)) a)
-  begins n l a =
-      let e : n - 0 ≡ n = omega arith in
-      let x : rest n 0 ≡ offers kinds figures n = ap (λ (m : ℕ). values (offer_at kinds figures) m 0) e in
-      record { ledger = ap (after (hear bsm) l) x; answers = ap (λ (os : List Offer). handed_out 0 (along (hear bsm) (reply bsm) l os) a) x }
 
   -- one offer more
   pub turn : (n i : ℕ) (l : Ledger) (o : Offer) (a : Answers) (L : Ledger) (A : Answers) (r : Heard) (c' : Columns) (x : List ℕ) (y : List Float)

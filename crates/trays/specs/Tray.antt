@@ -1,13 +1,16 @@
 -- The batch call: a fresh book hears a whole list from lent slices and is built. Its promise is demand 3's claim about the code itself.
-use Rattle.std.specs.Prelude.{ℕ, suc, ◌≡◌, Bool, List, [], ◌∷◌, map, eqb, length, take, get_or, set, Float, if◌then◌else◌}
+use Rattle.std.specs.Prelude.{ℕ, suc, ◌≡◌, Bool, List, [], ◌∷◌, map, eqb, length, take, get_or, set, Float, Result, Ok, Err, if◌then◌else◌}
 use Rattle.limits.specs.Checks.{none}
-use Rattle.limits.specs.Outcome.{Outcome}
+use Rattle.limits.specs.Outcome.{Outcome, refused}
+use Rattle.limits.specs.Refusals.{number}
+use Rattle.ledger.specs.declared.Unopened.{Unopened}
 use Rattle.brent.specs.declared.Solution.{Solution}
 use Rattle.grid.specs.Layout.{values}
-use Rattle.ledger.specs.Model.{Opening, bsm}
+use Rattle.ledger.specs.Model.{bsm}
+use Rattle.ledger.specs.declared.Opening.{Opening}
 use Rattle.ledger.specs.Book.{Columns, fresh, zero_book, open_refusal, is_short}
-use Rattle.chart.specs.declared.Built.{Built}
-use Rattle.chart.specs.Build.{Lengths, outcome}
+use Rattle.chart.specs.Build.{no_lengths, outcome}
+use Rattle.chart.specs.declared.Lengths.{Lengths}
 use Rattle.ledger.specs.Build.{Buffers, build_outcome, buffers_after}
 use Rattle.ledger.specs.Fold.{after, along}
 pub use Rattle.ledger.specs.Rows.{kind_of, terms_of, figures_of, shortest}
@@ -64,19 +67,19 @@ pub data TrayReply : Type 0 where
   shut : ℕ → Book → TrayReply
   heard : Book → Outcome Lengths → TrayReply
 
-unfoldable pub reply_of : Tray → TrayReply
-reply_of (Tray.Refused number book) = shut number book
-reply_of (Tray.Quoted book built) = heard book (outcome built)
+-- "A refused opening returns a record of zeros."
+unfoldable pub reply_of : Result Tray Unopened → TrayReply
+reply_of (Ok tray) = heard tray.book (outcome tray.built)
+reply_of (Err unopened) = shut (number unopened.refusal) unopened.book
 
--- What is written of an answer: kept, refused, heard and evaluations of its record, and the lengths of its build.
-unfoldable pub book_of : Tray → Book
-book_of (Tray.Refused number book) = book
-book_of (Tray.Quoted book built) = book
+-- What is written of an answer: kept, refused, heard and evaluations of its record, and the lengths of its build. A refused opening builds nothing.
+unfoldable pub book_of : TrayReply → Book
+book_of (shut number book) = book
+book_of (heard book built) = book
 
--- A refused opening builds nothing.
-unfoldable pub built_of : Tray → Built
-built_of (Tray.Refused number book) = Built.Refused number
-built_of (Tray.Quoted book built) = built
+unfoldable pub built_of : TrayReply → Outcome Lengths
+built_of (shut number book) = refused number no_lengths
+built_of (heard book built) = built
 
 module _ (opening : Opening) (os : List Offer) (l : Lent) where
   abbrev pub first_ledger : Ledger
@@ -113,7 +116,7 @@ module _ (opening : Opening) (os : List Offer) (l : Lent) where
   Claimed (heard book built) l' = TrayClaim book built l'
 
   -- Answer and every lent entry; and where the opening is accepted, demand 3 of them.
-  pub record QuotesTray (r : Tray) (l' : Lent) : Type 0 where
-    pub answers : reply_of r ≡ tray_reply
+  pub record QuotesTray (r : TrayReply) (l' : Lent) : Type 0 where
+    pub answers : r ≡ tray_reply
     pub lent : l' ≡ lent_after
-    pub claim : open_refusal opening ≡ none → Claimed (reply_of r) l'
+    pub claim : open_refusal opening ≡ none → Claimed r l'

@@ -1,8 +1,8 @@
 -- The solver of a priced offer: brent's run on the model's prices. Assumes nothing.
+use Rattle.std.specs.Prelude.{Result}
 use mathlib.Core.Path.{◌≡◌, refl, sym, ap, subst}
 use mathlib.Core.Bool.{Bool, true, false, not}
 use mathlib.Core.List.{[], ◌∷◌}
-use Prim.Native.Nat.{ℕ}
 use native.Mathlib.Omega.{arith}
 use borrow.Author.Tests.{not-false}
 use lib.Ieee.{Float}
@@ -16,12 +16,11 @@ use Rattle.blackscholes.specs.Checks.{option_refusal}
 use Rattle.blackscholes.specs.Implied.{implied_refusal, implied, outcome_of_implied, replied}
 use Rattle.blackscholes.specs.declared.OptionType.{OptionType}
 use Rattle.blackscholes.specs.declared.OptionParams.{OptionParams}
-use Rattle.blackscholes.specs.declared.Implied.{Implied}
 use Rattle.brent.specs.declared.Solution.{Solution}
-use Rattle.blackscholes.specs.declared.Implied.TheVariants.{Found, Refused}
+use Rattle.brent.specs.declared.Unsolved.{Unsolved}
 use Rattle.ledger.specs.Model.{bsm, prices_of}
 use Rattle.ledger.specs.Book.{opening_of, is_broken, own_refusal, answer_to, answer, end_of}
-use Rattle.ledger.specs.Calls.{Ended, Turned, Solves}
+use Rattle.ledger.specs.Calls.{Ended, Solves}
 use Rattle.ledger.specs.declared.Book.{Book}
 use Rattle.ledger.specs.declared.Offer.{Offer}
 use Rattle.ledger.specs.declared.Terms.TheVariants.{Volatility, Price}
@@ -64,7 +63,7 @@ pub itself : (b : Book) (o : Offer) (v : Float) → o.terms ≡ Volatility v
 unfolding answer_to
 itself b o v e = record { outcome = rw e; ended = omega arith }
 
-pub solved : (b : Book) (o : Offer) (kind : OptionType) (market v : Float) (r : Implied) → o.terms ≡ Price kind market → is_broken b ≡ false
+pub solved : (b : Book) (o : Offer) (kind : OptionType) (market v : Float) (r : Result Solution Unsolved) → o.terms ≡ Price kind market → is_broken b ≡ false
     → own_refusal o ≡ none
     → replied r ≡ implied market (option_of b o kind v)
     → Solves (answer bsm (opening_of b) o) (outcome_of_implied r)
@@ -77,14 +76,3 @@ solved b o kind market v r p h n e =
     let prices = prices_of bsm (opening_of b) o kind in
     let t : outcome_of_implied r ≡ end_of (run_with market prices).reply = ap end_of (rw z at e) in
     record { outcome = rw p t; ended = subst Ended (sym t) (run_ended market prices) }
-
--- ---- an answer that is not Found
-pub not_found : (a : Implied) → ((x : Solution) → a ≡ Found x → ⊥) → Ended (outcome_of_implied a) → Turned (outcome_of_implied a)
-unfolding outcome_of_implied
-not_found (Found x) h e = absurd (h x refl)
-not_found (Refused k n) h e = e
-
-pub not_refused : (a : Implied) → ((k n : ℕ) → a ≡ Refused k n → ⊥) → Turned (outcome_of_implied a) → ⊥
-unfolding outcome_of_implied
-not_refused (Found x) h t = t
-not_refused (Refused k n) h t = h k n refl

@@ -2,12 +2,11 @@
 use mathlib.Core.Path.{refl}
 use lib.Ieee.{to_bits, round}
 use Rattle.brent.specs.Outcome.{zeros}
-use Rattle.wording.specs.Words.{value_words, money_words, offer_words, greeks_words, build_words, cell_words, ends_words}
-use Rattle.wording.specs.Requests.{called, request_of, offer_of, option_of}
+use Rattle.wording.specs.Requests.{request_of, offer_of, option_of}
 use Rattle.wording.specs.Laws.{Laws}
 
 pub laws : Laws
-unfolding value_words money_words offer_words greeks_words build_words cell_words ends_words called request_of offer_of option_of zeros to_bits round
+unfolding request_of offer_of option_of zeros to_bits round
 laws =
     record {
       offer_found = λ v e c f n. refl;
@@ -21,17 +20,18 @@ laws =
       not_built = λ number. refl;
       no_ends = λ market p h. rw h;
       ends = λ market s k t r v kind h. rw h;
-      asks_open = λ s r xs. refl;
-      asks_call = λ k t m xs. refl;
-      asks_put = λ k t m xs. refl;
-      asks_vol = λ k t v xs. refl;
-      asks_build = λ xs. refl;
-      asks_read = λ k t xs. refl;
-      asks_money = λ t xs. refl;
-      asks_price = λ s k t r v xs. refl;
-      asks_greeks = λ s k t r v xs. refl;
-      asks_ends = λ k t m xs. refl;
+      asks_open = λ s r. refl;
+      asks_call = λ k t m. refl;
+      asks_put = λ k t m. refl;
+      asks_vol = λ k t v. refl;
+      asks_build = refl;
+      asks_read = λ k t. refl;
+      asks_money = λ t. refl;
+      asks_price = λ s k t r v. refl;
+      asks_greeks = λ s k t r v. refl;
+      asks_ends = λ k t m. refl;
       misspelt = λ xs. (refl, refl, refl, refl, refl, refl);
-      no_kind = λ xs. refl;
-      too_few = λ xs. refl;
+      no_kind = λ s k t r v. refl;
+      too_few = λ s k t r. refl;
+      too_many = λ s k t r v x xs. refl;
     }

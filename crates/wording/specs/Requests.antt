@@ -1,58 +1,64 @@
--- What a line asks: by its name of six characters and the number of its words.
-use Rattle.std.specs.Prelude.{ℕ, Bool, true, false, ◌&&◌, List, [], ◌∷◌, eqb, ltb, get_or, Float, if◌then◌else◌}
+-- What a line asks: by its name of six characters and its words. Another name asks nothing, nor does one with more words or fewer.
+use Prim.Native.String.{String}
+use Rattle.std.specs.Prelude.{ℕ, Bool, true, false, List, [], ◌∷◌, eqb, ltb, Float, Option, Some, None, option_map, bytes_eq, codes, if◌then◌else◌}
 use Rattle.std.specs.Float.{binary64}
 use Rattle.std.specs.Float.Ieee.{of_bits}
-use Rattle.hexlines.specs.Examples.{bytes}
 use Rattle.blackscholes.specs.declared.OptionParams.{OptionParams}
 use Rattle.ledger.specs.Rows.{kind_of}
 unfoldable pub use Rattle.ledger.specs.Rows.{offer_of, option_of}
 use Rattle.wording.specs.declared.Request.{Request}
-use Rattle.wording.specs.declared.Request.TheVariants.{Open, Offer, Build, Read, Money, Price, Greeks, Ends, Bad}
+use Rattle.wording.specs.declared.Request.TheVariants.{Open, Offer, Build, Read, Money, Price, Greeks, Ends}
 
-abbrev pub same_at : List ℕ → List ℕ → ℕ → Bool
-same_at a b i = eqb (get_or a i 0) (get_or b i 0)
+-- A word as a float.
+abbrev pub float : ℕ → Float
+float word = of_bits binary64 word
 
--- Two texts of six characters.
-unfoldable pub same : List ℕ → List ℕ → Bool
-same a b = (same_at a b 0 && same_at a b 1 && same_at a b 2) && (same_at a b 3 && same_at a b 4 && same_at a b 5)
-
--- A line of this name with so many words.
-unfoldable pub called : List ℕ → ℕ → List ℕ → ℕ → Bool
-unfolding same
-called name n text words = same name text && eqb n words
-
--- The word at a place as a float.
-abbrev pub float : List ℕ → ℕ → Float
-float x i = of_bits binary64 (get_or x i 0)
+-- "open: spot, rate"
+abbrev pub opening : List ℕ → Option Request
+opening (s ∷ r ∷ []) = Some (Open (record { spot = float s; rate = float r }))
+opening _ = None
 
 -- "call, put, vol: strike, expiry, value"
-abbrev pub offered : Bool → Bool → List ℕ → Request
-offered is_price isPut x = Offer (offer_of (is_price ∷ isPut ∷ []) (float x 0 ∷ float x 1 ∷ float x 2 ∷ []))
+abbrev pub offered : Bool → Bool → List ℕ → Option Request
+offered is_price isPut (k ∷ t ∷ v ∷ []) = Some (Offer (offer_of (is_price ∷ isPut ∷ []) (float k ∷ float t ∷ float v ∷ [])))
+offered is_price isPut _ = None
+
+abbrev pub build : List ℕ → Option Request
+build [] = Some Build
+build _ = None
+
+-- "read: strike, expiry"
+abbrev pub read : List ℕ → Option Request
+read (k ∷ t ∷ []) = Some (Read (float k) (float t))
+read _ = None
+
+-- "money: expiry"
+abbrev pub money : List ℕ → Option Request
+money (t ∷ []) = Some (Money (float t))
+money _ = None
 
 -- "price, greeks: put (0 or 1), spot, strike, expiry, rate, volatility"
-abbrev pub option : List ℕ → OptionParams
-option x = option_of (eqb (get_or x 0 0) 1) (float x 1) (float x 2) (float x 3) (float x 4) (float x 5)
+abbrev pub option : List ℕ → Option OptionParams
+option (p ∷ s ∷ k ∷ t ∷ r ∷ v ∷ []) = if ltb 1 p then None else Some (option_of (eqb p 1) (float s) (float k) (float t) (float r) (float v))
+option _ = None
 
--- Of a model's option, whose first word is 0 or 1.
-unfoldable pub model_request : List ℕ → ℕ → List ℕ → Request
-model_request name n x =
-    if ltb 1 (get_or x 0 0) then Bad else
-    (if called name n (bytes "price ") 6 then Price (option x) else
-    (if called name n (bytes "greeks") 6 then Greeks (option x) else
-    (if called name n (bytes "ends  ") 4 then Ends (kind_of (eqb (get_or x 0 0) 1)) (float x 1) (float x 2) (float x 3) else Bad)))
+-- "ends: put, strike, expiry, price"
+abbrev pub ends : List ℕ → Option Request
+ends (p ∷ k ∷ t ∷ m ∷ []) = if ltb 1 p then None else Some (Ends (kind_of (eqb p 1)) (float k) (float t) (float m))
+ends _ = None
 
--- Of the book and its surface.
-unfoldable pub book_request : List ℕ → ℕ → List ℕ → Request
-unfolding model_request
-book_request name n x =
-    if called name n (bytes "open  ") 2 then Open (float x 0) (float x 1) else
-    (if called name n (bytes "build ") 0 then Build else
-    (if called name n (bytes "read  ") 2 then Read (float x 0) (float x 1) else
-    (if called name n (bytes "money ") 1 then Money (float x 0) else model_request name n x)))
+abbrev pub called : List ℕ → String → Bool
+called name text = bytes_eq name (codes text)
 
-unfoldable pub request_of : List ℕ → ℕ → List ℕ → Request
-unfolding book_request
-request_of name n x =
-    if called name n (bytes "call  ") 3 then offered true false x else
-    (if called name n (bytes "put   ") 3 then offered true true x else
-    (if called name n (bytes "vol   ") 3 then offered false false x else book_request name n x))
+unfoldable pub request_of : List ℕ → List ℕ → Option Request
+request_of name words =
+    if called name "open  " then opening words else
+    (if called name "call  " then offered true false words else
+    (if called name "put   " then offered true true words else
+    (if called name "vol   " then offered false false words else
+    (if called name "build " then build words else
+    (if called name "read  " then read words else
+    (if called name "money " then money words else
+    (if called name "price " then option_map Price (option words) else
+    (if called name "greeks" then option_map Greeks (option words) else
+    (if called name "ends  " then ends words else None)))))))))

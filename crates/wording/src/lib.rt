@@ -4,17 +4,12 @@
 #![tactic(auto)]
 
 use blackscholes::{OptionParams, OptionType};
-use ledger::Offer;
+use ledger::{Offer, Opening};
 
 #[derive(Clone, Copy)]
 pub enum Request {
-    Open {
-        spot: f64,
-        rate: f64,
-    },
-    Offer {
-        offer: Offer,
-    },
+    Open(Opening),
+    Offer(Offer),
     Build,
     Read {
         strike: f64,
@@ -23,18 +18,12 @@ pub enum Request {
     Money {
         expiry: f64,
     },
-    Price {
-        option: OptionParams,
-    },
-    Greeks {
-        option: OptionParams,
-    },
+    Price(OptionParams),
+    Greeks(OptionParams),
     Ends {
         kind: OptionType,
         strike: f64,
         expiry: f64,
         market: f64,
     },
-    // answered by a question mark
-    Bad,
 }

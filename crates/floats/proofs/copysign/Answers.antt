@@ -1,15 +1,11 @@
--- `floats::copysign`: the magnitude by `abs`, turned where `is_negative` says so. Assumes nothing.
-use Rattle.floats.specs.Values.{copysign}
+-- `floats::copysign`: a not-a-number counts as not negative; of any other the library reads the sign. Assumes nothing.
+use Rattle.std.proofs.Common.{sym, ◌∙◌}
+use Rattle.floats.proofs.Signs.{float_with_sign-clear, float_with_sign-of, copysign-nan}
 use Rattle.floats.proofs.copysign.Goals as goal
 
-pub returns-then-is_negative : goal.returns-then-is_negative
-unfolding copysign
-returns-then-is_negative c =
-    let t = simp c.is_negative.ensures at c.if-is_negative.true in
-    simp (c.abs-size.ensures, t)
+pub returns-then-is_nan : goal.returns-then-is_nan
+returns-then-is_nan c =
+    c.abs.ensures.value ∙ float_with_sign-clear c.args.x ∙ sym (copysign-nan c.args.x c.args.y (sym c.is_nan.ensures.value ∙ c.if-is_nan.true))
 
-pub returns-else-is_negative : goal.returns-else-is_negative
-unfolding copysign
-returns-else-is_negative c =
-    let t = simp c.is_negative.ensures at c.if-is_negative.false in
-    simp (c.abs-size.ensures, t)
+pub returns-else-is_nan : goal.returns-else-is_nan
+returns-else-is_nan c = c.copysign.ensures ∙ float_with_sign-of c.args.x c.args.y

@@ -1,31 +1,42 @@
--- `floats::min`: a first operand that differs from itself is a not-a-number; a second one is below nothing. Assumes nothing.
+-- `floats::min`: the first test passes for a not-a-number, the second for none. Assumes nothing.
 use Rattle.std.specs.Prelude.{if◌then◌else◌}
-use mathlib.Core.Path.{◌≡◌, refl, sym, ◌∙◌}
-use mathlib.Core.Bool.{Bool, true, false}
+use Rattle.std.proofs.Common.{◌≡◌, refl, sym, ◌∙◌, Bool, true, false, true≢false}
 use lib.Ieee.{Float, is_nan}
+use Rattle.floats.specs.Operators.{◌≺◌}
 use Rattle.floats.specs.Values.{minimum}
-use Rattle.floats.proofs.Signs.{nan_is, below_some}
+use Rattle.floats.proofs.Signs.{below_some}
 use Rattle.floats.proofs.min.Goals as goal
+use Rattle.floats.proofs.min.Goals.{then-is_nan, else-is_nan}
 
 same : (b : Bool) (x : Float) → x ≡ if b then x else x
 same true x = refl
 same false x = refl
 
-pub returns-then-x : goal.returns-then-x
-unfolding minimum
-returns-then-x c = simp (sym (nan_is c.args.x) ∙ c.if-x.true)
+module _ (x y : Float) where
+  beside_nan : is_nan x ≡ true → y ≡ minimum x y
+  unfolding minimum
+  beside_nan n = simp n
+
+  smaller : is_nan x ≡ false → y ≺ x ≡ true → y ≡ minimum x y
+  unfolding minimum
+  smaller n l = simp (n, below_some y x l, l)
+
+  first : is_nan x ≡ false → y ≺ x ≡ false → x ≡ minimum x y
+  unfolding minimum
+  first n l = simp (n, l) (same (is_nan y) x)
 
 pub returns-then-y-x : goal.returns-then-y-x
-unfolding minimum
 returns-then-y-x c =
-    simp (
-      sym (nan_is c.args.x) ∙ c.if-x.false,
-      below_some c.args.y c.args.x c.if-y-x.true,
-      c.if-y-x.true,
-    )
+    let number = sym c.is_nan.ensures.value in
+    elim c.if-is_nan.branch [
+      | then-is_nan w ↦ beside_nan c.args.x c.args.y (number ∙ w.if-is_nan.true)
+      | else-is_nan w ↦ smaller c.args.x c.args.y (number ∙ w.if-is_nan.false) (sym w.value-is ∙ c.if-y-x.true)
+    ]
 
 pub returns-else-y-x : goal.returns-else-y-x
-unfolding minimum
 returns-else-y-x c =
-    simp (sym (nan_is c.args.x) ∙ c.if-x.false, c.if-y-x.false)
-    (same (is_nan c.args.y) c.args.x)
+    let number = sym c.is_nan.ensures.value in
+    elim c.if-is_nan.branch [
+      | then-is_nan w ↦ absurd (true≢false (sym w.if-is_nan.true ∙ sym w.value-is ∙ c.if-y-x.false))
+      | else-is_nan w ↦ first c.args.x c.args.y (number ∙ w.if-is_nan.false) (sym w.value-is ∙ c.if-y-x.false)
+    ]

@@ -1,8 +1,10 @@
 -- `host::kite_build`: the number and the lengths stand for the answer of the build below. Assumes nothing.
+use Rattle.std.proofs.Common.{rules}
 use Rattle.host.proofs.Lending.{builds}
 use Rattle.host.proofs.kite_build.Goals as goal
 
 pub returns : goal.returns
 returns c =
-    let a = c.build-built in
-    builds _ _ _ a.result _ _ _ a.ensures c.built_number.ensures c.built_lengths.ensures
+    let b = c.build-built in
+    let s = b.ensures.same_memory in
+    builds _ _ _ _ b.new.buffers _ _ _ _ _ _ b.ensures.builds c.number_of.ensures c.lengths_of.ensures (search rules)

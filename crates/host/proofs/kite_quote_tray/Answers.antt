@@ -1,15 +1,19 @@
 -- `host::kite_quote_tray`: the number, the totals and the lengths stand for the answer of the tray below. Assumes nothing.
-use mathlib.Core.Path.{ap, ◌∙◌}
-use Rattle.chart.specs.Build.{outcome}
-use Rattle.chart.specs.declared.Built.{Built}
-use Rattle.limits.specs.Outcome.{number_of}
-use Rattle.host.specs.Calls.{lengths_of, totals_of}
-use Rattle.host.proofs.Lending.{quotes}
+use Rattle.std.proofs.Common.{rules}
+use Rattle.host.proofs.Lending.{quoted_tray, shut_tray}
 use Rattle.host.proofs.kite_quote_tray.Goals as goal
 
-pub returns : goal.returns
-returns c =
+pub returns-in-Ok : goal.returns-in-Ok
+returns-in-Ok c =
     let t = c.quote_tray-tray in
-    let b = c.built_of-built.ensures in
-    quotes _ _ _ t.result _ _ _ _ t.ensures (c.built_number.ensures ∙ ap (λ (x : Built). number_of (outcome x)) b)
-    (ap totals_of c.book_of-book.ensures) (c.built_lengths.ensures ∙ ap lengths_of b)
+    let s = t.ensures.same_columns in
+    let z = t.ensures.same_buffers in
+    quoted_tray _ _ _ _ t.new.columns t.new.buffers _ _ _ _ _ _ _ (search rules) (search rules) c.in-Ok.tray _ _ c.number_of.ensures c.lengths_of.ensures
+    c.in-Ok.ensures.quotes
+
+pub returns-in-Err : goal.returns-in-Err
+returns-in-Err c =
+    let t = c.quote_tray-tray in
+    let s = t.ensures.same_columns in
+    let z = t.ensures.same_buffers in
+    shut_tray _ _ _ _ t.new.columns t.new.buffers _ _ _ _ _ _ _ (search rules) (search rules) c.in-Err.unopened _ c.from.ensures c.in-Err.ensures.quotes

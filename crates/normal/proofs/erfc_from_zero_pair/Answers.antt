@@ -4,36 +4,24 @@ use Rattle.normal.proofs.erfc_from_zero_pair.Goals as goal
 
 pub near_pair-requires : goal.near_pair-requires
 unfolding of_bits round
-near_pair-requires c = (c.if-x.true, c.if-y.true)
+near_pair-requires c = (c.in-true-true.is-0, c.in-true-true.is-1)
 
-pub returns-then-y : goal.returns-then-y
-returns-then-y c = c.near_pair.ensures
-
-pub near_pair-s-requires : goal.near_pair-s-requires
+pub near_pair-requires-in-true-false : goal.near_pair-requires-in-true-false
 unfolding of_bits round
-near_pair-s-requires c = (c.if-x.true, c.if-x.true)
-
-pub far_pair-t-requires : goal.far_pair-t-requires
-unfolding of_bits round
-far_pair-t-requires c = (c.if-y.false, c.if-y.false)
-
-pub returns-then-x : goal.returns-then-x
-returns-then-x c = simp (c.near_pair-s.ensures, c.far_pair-t.ensures)
-
-pub far_pair-s-requires : goal.far_pair-s-requires
-unfolding of_bits round
-far_pair-s-requires c = (c.if-x.false, c.if-x.false)
-
-pub near_pair-t-requires : goal.near_pair-t-requires
-unfolding of_bits round
-near_pair-t-requires c = (c.if-y-2.true, c.if-y-2.true)
-
-pub returns-then-y-2 : goal.returns-then-y-2
-returns-then-y-2 c = simp (c.far_pair-s.ensures, c.near_pair-t.ensures)
+near_pair-requires-in-true-false c = simp c.new.ensures (c.in-true-false.is-0, c.in-true-false.is-0)
 
 pub far_pair-requires : goal.far_pair-requires
 unfolding of_bits round
-far_pair-requires c = (c.if-x.false, c.if-y-2.false)
+far_pair-requires c = simp c.new-in-true-false.ensures (c.in-true-false.is-1, c.in-true-false.is-1)
 
-pub returns : goal.returns
-returns c = c.far_pair.ensures
+pub far_pair-requires-in-false-true : goal.far_pair-requires-in-false-true
+unfolding of_bits round
+far_pair-requires-in-false-true c = simp c.new-in-false-true.ensures (c.in-false-true.is-0, c.in-false-true.is-0)
+
+pub near_pair-requires-in-false-true : goal.near_pair-requires-in-false-true
+unfolding of_bits round
+near_pair-requires-in-false-true c = simp c.new-in-false-true-2.ensures (c.in-false-true.is-1, c.in-false-true.is-1)
+
+pub far_pair-requires-in-false-false : goal.far_pair-requires-in-false-false
+unfolding of_bits round
+far_pair-requires-in-false-false c = (c.in-false-false.is-0, c.in-false-false.is-1)

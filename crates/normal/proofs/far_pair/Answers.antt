@@ -1,34 +1,31 @@
 -- `normal::far_pair`: two numerators of 0 are the quotients themselves (`vanishes`); else both fractions by `fraction_pair`. Assumes nothing.
-use mathlib.Core.Path.{sym, subst}
-use lib.Dec.{T}
-use Rattle.gauss.specs.Erfc.{erfc_from_zero}
-use lib.Ieee.{of_bits, round, eq}
-use mathlib.Core.Bool.{◌&&◌}
-use Rattle.floats.specs.Operators.{◌≺◌}
-use Rattle.floats.proofs.Tests.{and_left, and_right}
+use Rattle.std.proofs.Common.{◌≡◌, true, refl, ◌∙◌, subst, rules}
+use lib.Ieee.{Float, of_bits, round, eq}
+use Rattle.floats.proofs.Tests.{holds}
 use Rattle.floats.proofs.Signs.{O}
-use Rattle.gauss.proofs.Vanish.{over, vanishes}
+use Rattle.gauss.specs.Erfc.{erfc_from_zero}
+use Rattle.gauss.specs.Steps.{far_numerator}
+use Rattle.gauss.proofs.Vanish.{vanishes}
+use Rattle.normal.proofs.Pairs.{are_both}
 use Rattle.normal.proofs.far_pair.Goals as goal
 
-pub returns-then-e-x : goal.returns-then-e-x
+pub returns-then-v-2 : goal.returns-then-v-2
 unfolding of_bits round
-returns-then-e-x c =
-    let x = c.args.x in
-    let y = c.args.y in
-    let e = c.exp-e in
-    let f = c.exp-f in
-    let A = eq (over e.result) O in
-    let B = O ≺ x in
-    let C = eq (over f.result) O in
-    let D = O ≺ y in
-    let t3 = and_left (A && B && C) D c.if-e-x.true in
-    let t2 = and_left (A && B) C t3 in
-    let g = vanishes x e.result (subst T (sym c.well_formed.0.1) tt) c.requires.0 (and_right A B t2) e.ensures (and_left A B t2) in
-    let h = vanishes y f.result (subst T (sym c.well_formed.1.0.1) tt) c.requires.1
-    (and_right (A && B && C) D c.if-e-x.true) f.ensures (and_right (A && B) C t3) in
-    rw (g, h)
+returns-then-v-2 c =
+    let v = c.args.v in
+    let e = c.map-e.result in
+    let p : e.first ≡ far_numerator v.first = search rules in
+    let q : e.second ≡ far_numerator v.second = search rules in
+    let held = c.well_formed.0.1.1 in
+    let g = vanishes v.first _ (holds _ held.0.1) c.requires.0 c.if-v.true refl (subst (λ (x : Float). eq x O ≡ true) p c.if-e.true) in
+    let h = vanishes v.second _ (holds _ held.1.0.1) c.requires.1 c.if-v-2.true refl (subst (λ (x : Float). eq x O ≡ true) q c.if-e-2.true) in
+    are_both e erfc_from_zero v.first v.second (p ∙ g) (q ∙ h)
 
 pub returns : goal.returns
 unfolding erfc_from_zero of_bits round
 returns c =
-    simp (c.requires.0, c.requires.1, c.fraction_pair-c.ensures, c.exp-f.ensures, c.exp-e.ensures)
+    let v = c.args.v in
+    let e = c.map-e.result in
+    let p : e.first ≡ far_numerator v.first = search rules in
+    let q : e.second ≡ far_numerator v.second = search rules in
+    simp (c.new.ensures, c.requires.0, c.requires.1, c.fraction_pair-c.ensures, p, q)

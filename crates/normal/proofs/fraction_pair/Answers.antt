@@ -1,21 +1,28 @@
-use mathlib.Core.Path.{◌≡◌, refl}
-use native.Mathlib.Omega.{arith}
-use native.Mathlib.Numerals.{add-one}
-use lib.Ieee.{of_bits, round, of_int}
-use Rattle.gauss.specs.Erfc.{fraction}
+use Rattle.std.proofs.Common.{◌≡◌, ℕ, suc, ◌-◌, ◌≤◌, refl, arith}
+use lib.Ieee.{Float, of_bits, round, of_int}
+use Rattle.floats.specs.Operators.{decimal, ◌⊕◌, ◌⊘◌}
+use Rattle.gauss.specs.Erfc.{fraction, levels}
 use Rattle.normal.proofs.fraction_pair.Goals as goal
 
-pub loop-k-init : goal.loop-k-init
+next : (v c : Float) (j : ℕ) → 1 ≤ j → j ≤ 60 → c ≡ fraction v (levels - j) → v ⊕ decimal j 1 ⊘ decimal 2 1 ⊘ c ≡ fraction v (levels - (j - 1))
 unfolding fraction
-loop-k-init c = (omega arith, refl, refl)
+next v c j h l e =
+    let s : 60 - (j - 1) ≡ suc (60 - j) = omega arith in
+    let k : 60 - (60 - j) ≡ j = omega arith in
+    rw s (simp (k, e))
 
-pub loop-k-preserved : goal.loop-k-preserved
-unfolding fraction of_bits round of_int
-loop-k-preserved c =
-    let inv = c.loop-k.invariant in
-    (omega arith, simp (add-one, inv.1), simp (add-one, inv.2))
+pub loop-j-init : goal.loop-j-init
+unfolding fraction
+loop-j-init c = (refl, refl)
+
+pub loop-j-preserved : goal.loop-j-preserved
+unfolding of_bits round of_int
+loop-j-preserved c =
+    let v = c.args.v in
+    let l = c.loop-j in
+    (next v.first l.c l.j (omega arith) (omega arith) l.invariant.0, next v.second l.d l.j (omega arith) (omega arith) l.invariant.1)
 
 pub returns : goal.returns
 returns c =
-    let e : c.loop-k.k ≡ 60 = omega arith in
-    rw (c.loop-k.invariant.1, c.loop-k.invariant.2, e)
+    let e : c.loop-j.j ≡ 0 = omega arith in
+    simp (c.new.ensures, c.loop-j.invariant.0, c.loop-j.invariant.1, e)

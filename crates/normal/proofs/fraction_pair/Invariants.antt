@@ -1,11 +1,7 @@
--- `normal::fraction_pair`: after k rounds c and d are `fraction x k` and `fraction y k`. Assumes nothing.
-use mathlib.Core.Path.{◌≡◌}
-use Prim.Native.Nat.{◌≤◌, ◌-◌}
-use Rattle.gauss.specs.Erfc.{fraction}
+-- `normal::fraction_pair`: with j rounds to come c and d are `fraction` after the others. Assumes nothing.
+use Rattle.std.proofs.Common.{◌≡◌, ◌-◌}
+use Rattle.gauss.specs.Erfc.{fraction, levels}
 use Rattle.normal.proofs.fraction_pair.Given as goal
 
-abbrev pub invariant-loop-k : goal.invariant-loop-k
-invariant-loop-k l = (l.k ≤ 60) × (l.c ≡ fraction l.x l.k) × (l.d ≡ fraction l.y l.k)
-
-abbrev pub decreases-loop-k : goal.decreases-loop-k
-decreases-loop-k l = 60 - l.k
+abbrev pub invariant-loop-j : goal.invariant-loop-j
+invariant-loop-j l = (l.c ≡ fraction l.v.first (levels - l.j)) × (l.d ≡ fraction l.v.second (levels - l.j))

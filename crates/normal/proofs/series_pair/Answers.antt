@@ -1,44 +1,52 @@
-use mathlib.Core.Path.{◌≡◌, refl}
-use Prim.Native.Nat.{◌<◌}
-use native.Mathlib.Omega.{arith}
-use lib.Ieee.{of_bits, round, of_int}
-use Rattle.floats.proofs.Tests.{and_left, and_right}
-use Rattle.gauss.specs.Erfc.{series}
+use Rattle.std.proofs.Common.{◌≡◌, ℕ, ◌+◌, ◌*◌, ◌<◌, Bool, true, refl, ap, ◌∙◌, arith}
+use lib.Ieee.{Float, of_bits, round, of_int}
+use Rattle.floats.specs.Operators.{decimal, ◌⊕◌, ◌⊗◌, ◌⊘◌}
+use Rattle.gauss.specs.Erfc.{series, terms}
+use Rattle.gauss.specs.Steps.{settled}
 use Rattle.gauss.proofs.Later.{next_term_lem, next_sum, last_sum}
+use Rattle.normal.specs.declared.Series.{Series}
+use Rattle.normal.specs.Pairs.{summed}
 use Rattle.normal.proofs.series_pair.Goals as goal
+
+abbrev stepped : Series → Float → Series
+stepped s d = record { w = s.w; g = s.g ⊗ s.w ⊘ d; sum = s.sum ⊕ s.g ⊗ s.w ⊘ d }
+
+module _ (v : Float) (n : ℕ) (s t : Series) (e : s ≡ summed v n) (f : t ≡ stepped s (decimal (2 * n + 3) 1)) where
+  one_more : t ≡ stepped (summed v n) (decimal (2 * n + 3) 1)
+  one_more = f ∙ ap (λ (s : Series). stepped s (decimal (2 * n + 3) 1)) e
+
+  next : t ≡ summed v (n + 1)
+  next =
+      let a = next_term_lem v (series v n).g (series v n).sum n refl refl in
+      let b = next_sum v (series v n).g (series v n).sum n refl refl in
+      one_more ∙ cc
+
+  last : {b : Bool} → n < terms → b ≡ settled n t.w t.g s.sum t.sum → b ≡ true → t.sum ≡ (series v terms).sum
+  last l h k =
+      ap (λ (s : Series). s.sum) one_more ∙ last_sum v (series v n).g (series v n).sum n refl refl l (rw (one_more, e) at h) k
 
 pub loop-k-init : goal.loop-k-init
 unfolding series
-loop-k-init c = (omega arith, refl, refl, refl, refl)
+loop-k-init c = (c.new-a.ensures, c.new-b.ensures)
 
-pub returns-then-settled : goal.returns-then-settled
+pub returns-then-is_settled-2 : goal.returns-then-is_settled-2
 unfolding of_bits round of_int
-returns-then-settled c =
-    let args = c.args in
+returns-then-is_settled-2 c =
+    let v = c.args.v in
     let l = c.loop-k in
-    let inv = l.invariant in
-    let s = c.settled in
-    let t = c.settled-in-loop-k in
-    let early : l.k < 40 = omega (arith, c.loop-k-test.true) in
-    let p = last_sum args.x l.g l.a l.k inv.1 inv.2 early s.ensures (and_left s.result t.result c.if-settled.true) in
-    let q = last_sum args.y l.h l.b l.k inv.3 inv.4 early t.ensures (and_right s.result t.result c.if-settled.true) in
-    simp (p, q)
+    let early : l.k < 40 = omega arith in
+    let p = last v.first l.k l.a _ l.invariant.0 c.step-next_a.ensures early c.is_settled.ensures c.if-is_settled.true in
+    let q = last v.second l.k l.b _ l.invariant.1 c.step-next_b.ensures early c.is_settled-then-is_settled.ensures c.if-is_settled-2.true in
+    simp (c.new.ensures, p, q)
 
 pub loop-k-preserved : goal.loop-k-preserved
 unfolding of_bits round of_int
 loop-k-preserved c =
-    let args = c.args in
+    let v = c.args.v in
     let l = c.loop-k in
-    let inv = l.invariant in (
-      omega arith,
-      next_term_lem args.x l.g l.a l.k inv.1 inv.2,
-      next_sum args.x l.g l.a l.k inv.1 inv.2,
-      next_term_lem args.y l.h l.b l.k inv.3 inv.4,
-      next_sum args.y l.h l.b l.k inv.3 inv.4,
-    )
+    (next v.first l.k l.a _ l.invariant.0 c.step-next_a.ensures, next v.second l.k l.b _ l.invariant.1 c.step-next_b.ensures)
 
 pub returns : goal.returns
 returns c =
     let e : c.loop-k.k ≡ 40 = omega arith in
-    let inv = c.loop-k.invariant in
-    rw (inv.2, inv.4, e)
+    simp (c.new-2.ensures, c.loop-k.invariant.0, c.loop-k.invariant.1, e)

@@ -1,28 +1,30 @@
-use Rattle.grid.proofs.Ascent.{ascent_none, ascent_first, ascent_start, ascent_stop, ascent_on, ascent_end}
-use mathlib.Core.Path.{sym, ◌∙◌}
+-- `readings::is_axis`: a first value that is finite, and each rises from the one before. Assumes nothing.
+use mathlib.Core.Path.{◌≡◌, sym, ◌∙◌}
+use mathlib.Core.Bool.{true, false}
+use Prim.Native.Nat.{◌≤◌, ◌<◌}
 use native.Mathlib.Omega.{arith}
+use lib.ListN.{length, get_or}
+use lib.Ieee.{nan}
+use Rattle.std.proofs.Common.{rules}
+use Rattle.std.proofs.lemmas.List.Sorted.{answers_always}
+use Rattle.floats.specs.Values.{finite}
+use Rattle.grid.proofs.Ascent.{axis_sorted, no_axis, none_axis, rises}
 use Rattle.readings.proofs.is_axis.Goals as goal
 
-pub returns-then-n-eq0 : goal.returns-then-n-eq0
-returns-then-n-eq0 c = ascent_none _ _ c.if-n-eq0.true
+pub returns-in_default : goal.returns-in_default
+returns-in_default c =
+    let none : length c.args.axis.now ≤ 0 = omega (arith, c.in_default.ensures.item) in
+    none_axis c.args.axis.now none
 
-pub returns-then-not-is_finite : goal.returns-then-not-is_finite
-returns-then-not-is_finite c = ascent_first _ _ (omega arith) c.requires (sym c.is_finite.ensures ∙ c.if-not-is_finite.true)
+pub returns-then-is_finite : goal.returns-then-is_finite
+returns-then-is_finite c =
+    let I = c.in-Some.ensures.item in
+    let some : 0 < length c.args.axis.now = omega (arith, I) in
+    let first : finite (get_or c.args.axis.now 0 nan) ≡ true = (rw (I.3.1 nan, c.if-is_finite.true) at (sym c.is_finite.ensures)) in
+    axis_sorted _ _ some first (c.is_sorted_by.ensures.cases rises (answers_always _ _ _ (λ f a r g h. search rules)))
 
-pub loop-i-init : goal.loop-i-init
-loop-i-init c =
-    (omega arith, c.requires, ascent_start _ _ (omega arith) c.requires (sym c.is_finite.ensures ∙ c.if-not-is_finite.false))
-
-pub returns-then-not-rises : goal.returns-then-not-rises
-returns-then-not-rises c =
-    let I = c.loop-i.invariant in
-    ascent_stop _ _ _ _ I.1 _ c.loop-i-test.true (sym c.rises.ensures ∙ c.if-not-rises.true) I.2
-
-pub loop-i-preserved : goal.loop-i-preserved
-loop-i-preserved c =
-    let I = c.loop-i.invariant in
-    let r = sym c.rises.ensures ∙ c.if-not-rises.false in
-    (omega arith, I.1, ascent_on _ _ _ _ I.1 _ c.loop-i-test.true r I.2)
-
-pub returns : goal.returns
-returns c = let I = c.loop-i.invariant in ascent_end _ _ _ _ I.1 _ c.loop-i-test.false I.2
+pub returns-else-is_finite : goal.returns-else-is_finite
+returns-else-is_finite c =
+    let I = c.in-Some.ensures.item in
+    let first : finite (get_or c.args.axis.now 0 nan) ≡ false = (rw (I.3.1 nan, c.if-is_finite.false) at (sym c.is_finite.ensures)) in
+    c.if-is_finite.false ∙ no_axis c.args.axis.now first

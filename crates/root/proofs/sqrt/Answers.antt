@@ -1,48 +1,23 @@
--- `root::sqrt`: the four tests leave a float above 0. Its digits, with an even exponent, stand under the root; the root of these, rounded, is the
+-- `root::sqrt`: `exceptional` leaves a float above 0. Its digits, with an even exponent, stand under the root; the root of these, rounded, is the
 -- definition's (Squares), and that this is the nearest is Nearest's law. Assumes nothing.
 use Rattle.std.specs.Prelude.{if◌then◌else◌}
-use mathlib.Core.Path.{◌≡◌, refl, sym, ap, ◌∙◌, subst}
-use mathlib.Core.Bool.{Bool, false, not}
-use Prim.Native.Nat.{ℕ, zero, suc, ◌+◌, ◌*◌, ◌/◌, ◌%◌, ◌^◌, ◌≤◌, ◌<◌}
-use native.Mathlib.Omega.{arith}
+use Rattle.std.proofs.Common.{◌≡◌, refl, sym, ap, ◌∙◌, subst, Bool, true, false, not, T, eqb, ℕ, zero, suc, ◌+◌, ◌*◌, ◌/◌, ◌%◌, ◌^◌, ◌≤◌, ◌<◌, arith}
 use borrow.Author.Tests.{eq-eqb, eqb-true}
-use lib.Dec.{T, eqb}
-use lib.Ieee.{Float, nan, inf, fin, binary64, fits, of_bits, nan_bits, div, size, round}
-use lib.Ieee.Compare.{differs_from_itself}
+use lib.Ieee.{Float, nan, inf, fin, binary64, fits, of_bits, nan_bits, is_nan, eq, div, size, round}
 use lib.Ieee.Positive.{positive}
-use Rattle.floats.proofs.Signs.{Negative, Zero, is_negative, is_zero, is_infinity, is_positive}
-use Rattle.floats.proofs.Tests.{by, clash}
+use Rattle.floats.proofs.Signs.{O, infinity, Negative, Zero, nan_of, is_negative, is_zero, is_infinity, is_positive}
+use Rattle.floats.proofs.Tests.{by, clash, holds}
+use Rattle.floats.specs.Operators.{◌≺◌}
 use Rattle.floats.specs.Wholes.{units_of}
-use Rattle.floats.specs.Digits.{Digits}
+use Rattle.floats.specs.Digits.{Digits, parts_of}
 use Rattle.floats.specs.declared.Parts.{Parts}
-use Rattle.floats.proofs.Digits.{digits_of}
+use Rattle.floats.proofs.Digits.{digits_are}
 use Rattle.root.specs.Root.{SquareRoot, NearestRoot, sqrt, root_of_units, half_root, whole_root}
+use Rattle.root.specs.Steps.{under}
+use Rattle.root.specs.declared.Rooted.{Rooted}
 use Rattle.root.proofs.Squares.{IsRoot, whole_root_is, root_lt, q_lt, half_bits, half_no_nan, under_even, under_odd}
 use Rattle.root.proofs.Nearest.{at_positive, nearest_root}
 use Rattle.root.proofs.sqrt.Goals as goal
-
--- ---- exceptional operands
-at_nan : (v : Float) → v ≡ nan → v ≡ sqrt v
-unfolding sqrt
-at_nan v h = subst (λ (y : Float). y ≡ sqrt y) (sym h) refl
-
-at_inf : (v : Float) → v ≡ inf false → v ≡ sqrt v
-unfolding sqrt
-at_inf v h = subst (λ (y : Float). y ≡ sqrt y) (sym h) refl
-
-at_negative : (v : Float) → Negative v → nan ≡ sqrt v
-unfolding sqrt
-at_negative nan n = refl
-at_negative (inf s) n = rw n
-at_negative (fin s zero e) n = absurd n
-at_negative (fin s (suc m) e) n = rw n
-
-at_zero : (v : Float) → Zero v → v ≡ sqrt v
-unfolding sqrt
-at_zero nan n = absurd n
-at_zero (inf s) n = absurd n
-at_zero (fin s zero e) n = refl
-at_zero (fin s (suc m) e) n = absurd n
 
 -- ---- the exact root: what stands under it
 -- t has 53 or 54 digits, and the definition's number under the root is t and 54 zeros
@@ -88,171 +63,80 @@ module _ (t m : ℕ) (lo : 4503599627370496 ≤ t) (hi : t + 1 < 180143985094819
     unfolding IsRoot
     no_nan = subst (λ (x : ℕ). T (not (nan_bits binary64 (x + k * 4503599627370496)))) (sym e) (half_no_nan t w lo hi whole.0 whole.1 k K)
 
--- both parts of the contract, from the first
-both : (v r : Float) → T (fits binary64 v) → r ≡ sqrt v → SquareRoot v r
-both v r f e = record { equals = e; nearest = λ (p : T (positive v)). subst (λ (x : Float). NearestRoot v x) (sym e) (nearest_root v f p) }
+-- ---- a float above 0
+module _ (v : Float) (f : fits binary64 v ≡ true) where
+  -- both parts of the contract, from the first
+  both : (r : Float) → r ≡ sqrt v → SquareRoot v r
+  both r e = record { equals = e; nearest = λ (p : T (positive v)). subst (λ (x : Float). NearestRoot v x) (sym e) (nearest_root v (holds _ f) p) }
 
-pub returns-then-v : goal.returns-then-v
-returns-then-v c =
-    let held : T (fits binary64 c.args.v) = subst T (sym c.well_formed.0.1) tt in
-    both c.args.v c.args.v held
-    (at_nan c.args.v (differs_from_itself c.args.v (subst T (sym c.if-v.true) tt)))
+  module _ (pos : T (positive v)) (p : Parts) (e : p ≡ parts_of v) where
+    digits : Digits v p.digits p.size
+    digits = digits_are v p f pos e
 
-pub returns-then-v-2 : goal.returns-then-v-2
-unfolding div of_bits round
-returns-then-v-2 c =
-    let held : T (fits binary64 c.args.v) = subst T (sym c.well_formed.0.1) tt in
-    both c.args.v nan held
-    (at_negative c.args.v (is_negative c.args.v c.if-v-2.true))
+    module _ (t : ℕ) (g : t ≡ (if eqb (p.size % 2) 0 then 2 * p.digits else p.digits)) where
+      under_root : Under v p.size t
+      under_root = subst (Under v p.size) (sym g) (even_exponent v p.digits p.size digits)
 
-pub returns-then-v-3 : goal.returns-then-v-3
-unfolding of_bits round
-returns-then-v-3 c =
-    let held : T (fits binary64 c.args.v) = subst T (sym c.well_formed.0.1) tt in
-    both c.args.v c.args.v held
-    (at_zero c.args.v (is_zero c.args.v c.if-v-3.true))
+      module _ (r : Rooted) (h : under r ≡ t * 2 ^ 52) where
+        short : r.q < 2 ^ 53
+        short = let u = under_root.1 in root_lt r.q 9007199254740992 (omega arith)
 
-pub returns-then-v-4 : goal.returns-then-v-4
-unfolding of_bits round
-returns-then-v-4 c =
-    let held : T (fits binary64 c.args.v) = subst T (sym c.well_formed.0.1) tt in
-    both c.args.v c.args.v held
-    (at_inf c.args.v (is_infinity c.args.v c.if-v-4.true))
+        module _ (m : ℕ) (j : m ≡ (whole_root 54 (4 * under r) + 1) / 2) where
+          m_is : m ≡ (whole_root 54 (t * 18014398509481984) + 1) / 2
+          m_is = rounded_under t r.q r.rem m h j
+
+          m_small : m < 2 ^ 53
+          m_small = m_lt t m under_root.0 under_root.1 m_is
+
+          bits_no_nan : T (not (nan_bits binary64 (m + (p.size + 969) / 2 * 4503599627370496)))
+          bits_no_nan = no_nan t m under_root.0 under_root.1 m_is _ (let s = digits.small in omega arith)
+
+          root_is : of_bits binary64 (m + (p.size + 969) / 2 * 4503599627370496) ≡ sqrt v
+          root_is =
+              bits t m under_root.0 under_root.1 m_is ((p.size + 969) / 2) (let s = digits.small in omega arith)
+              ∙ at_digits v t p.size pos digits.places under_root
+
+pub returns-in-Some : goal.returns-in-Some
+returns-in-Some c =
+    both c.args.v c.well_formed.0.1 _ c.in-Some.ensures
 
 pub radicand-t-requires : goal.radicand-t-requires
-unfolding of_bits round
 radicand-t-requires c =
-    let held : T (fits binary64 c.args.v) = subst T (sym c.well_formed.0.1) tt in
-    let is_pos : T (positive c.args.v) =
-    is_positive c.args.v c.if-v.false c.if-v-2.false c.if-v-3.false
-    c.if-v-4.false in
-    let digits : Digits c.args.v c.taken_apart-p.result.digits c.taken_apart-p.result.size =
-    subst (λ (r : Parts). Digits c.args.v r.digits r.size) (sym c.taken_apart-p.ensures)
-    (digits_of c.args.v held is_pos) in
-    digits.high
+    (digits c.args.v c.well_formed.0.1 c.in_default.ensures _ c.taken_apart-p.ensures).high
 
 pub overflow_add-k : goal.overflow_add-k
-unfolding of_bits round
 overflow_add-k c =
-    let held : T (fits binary64 c.args.v) = subst T (sym c.well_formed.0.1) tt in
-    let is_pos : T (positive c.args.v) =
-    is_positive c.args.v c.if-v.false c.if-v-2.false c.if-v-3.false
-    c.if-v-4.false in
-    let digits : Digits c.args.v c.taken_apart-p.result.digits c.taken_apart-p.result.size =
-    subst (λ (r : Parts). Digits c.args.v r.digits r.size) (sym c.taken_apart-p.ensures)
-    (digits_of c.args.v held is_pos) in
-    omega (arith, digits.small)
+    let d = digits c.args.v c.well_formed.0.1 c.in_default.ensures _ c.taken_apart-p.ensures in
+    omega (arith, d.small)
 
 pub exact_root-root-requires : goal.exact_root-root-requires
-unfolding of_bits round
 exact_root-root-requires c =
-    let held : T (fits binary64 c.args.v) = subst T (sym c.well_formed.0.1) tt in
-    let is_pos : T (positive c.args.v) =
-    is_positive c.args.v c.if-v.false c.if-v-2.false c.if-v-3.false
-    c.if-v-4.false in
-    let digits : Digits c.args.v c.taken_apart-p.result.digits c.taken_apart-p.result.size =
-    subst (λ (r : Parts). Digits c.args.v r.digits r.size) (sym c.taken_apart-p.ensures)
-    (digits_of c.args.v held is_pos) in
-    let under : Under c.args.v c.taken_apart-p.result.size c.radicand-t.result =
-    let r = c.taken_apart-p.result in
-    subst (Under c.args.v r.size) (sym c.radicand-t.ensures)
-    (even_exponent c.args.v r.digits r.size digits) in
-    omega (arith, under.1)
+    let u = under_root c.args.v c.well_formed.0.1 c.in_default.ensures _ c.taken_apart-p.ensures _ c.radicand-t.ensures in
+    omega (arith, u.1)
 
 pub rounded-m-requires : goal.rounded-m-requires
-unfolding of_bits round
 rounded-m-requires c =
-    let held : T (fits binary64 c.args.v) = subst T (sym c.well_formed.0.1) tt in
-    let is_pos : T (positive c.args.v) =
-    is_positive c.args.v c.if-v.false c.if-v-2.false c.if-v-3.false
-    c.if-v-4.false in
-    let digits : Digits c.args.v c.taken_apart-p.result.digits c.taken_apart-p.result.size =
-    subst (λ (r : Parts). Digits c.args.v r.digits r.size) (sym c.taken_apart-p.ensures)
-    (digits_of c.args.v held is_pos) in
-    let under : Under c.args.v c.taken_apart-p.result.size c.radicand-t.result =
-    let r = c.taken_apart-p.result in
-    subst (Under c.args.v r.size) (sym c.radicand-t.ensures)
-    (even_exponent c.args.v r.digits r.size digits) in
-    let r = c.exact_root-root in
-    let e = r.ensures.0 in
-    let h = under.1 in
-    (r.ensures.1, root_lt r.result.q 9007199254740992 (omega arith))
+    short c.args.v c.well_formed.0.1 c.in_default.ensures _ c.taken_apart-p.ensures _ c.radicand-t.ensures c.exact_root-root.result c.exact_root-root.ensures
 
 pub overflow_mul-result : goal.overflow_mul-result
-unfolding of_bits round
 overflow_mul-result c =
-    let held : T (fits binary64 c.args.v) = subst T (sym c.well_formed.0.1) tt in
-    let is_pos : T (positive c.args.v) =
-    is_positive c.args.v c.if-v.false c.if-v-2.false c.if-v-3.false
-    c.if-v-4.false in
-    let digits : Digits c.args.v c.taken_apart-p.result.digits c.taken_apart-p.result.size =
-    subst (λ (r : Parts). Digits c.args.v r.digits r.size) (sym c.taken_apart-p.ensures)
-    (digits_of c.args.v held is_pos) in
-    omega (arith, digits.small)
+    let d = digits c.args.v c.well_formed.0.1 c.in_default.ensures _ c.taken_apart-p.ensures in
+    omega (arith, d.small)
 
 pub overflow_add-result : goal.overflow_add-result
-unfolding of_bits round
 overflow_add-result c =
-    let held : T (fits binary64 c.args.v) = subst T (sym c.well_formed.0.1) tt in
-    let is_pos : T (positive c.args.v) =
-    is_positive c.args.v c.if-v.false c.if-v-2.false c.if-v-3.false
-    c.if-v-4.false in
-    let digits : Digits c.args.v c.taken_apart-p.result.digits c.taken_apart-p.result.size =
-    subst (λ (r : Parts). Digits c.args.v r.digits r.size) (sym c.taken_apart-p.ensures)
-    (digits_of c.args.v held is_pos) in
-    let under : Under c.args.v c.taken_apart-p.result.size c.radicand-t.result =
-    let r = c.taken_apart-p.result in
-    subst (Under c.args.v r.size) (sym c.radicand-t.ensures)
-    (even_exponent c.args.v r.digits r.size digits) in
-    let folded : ℕ = c.radicand-t.result in
-    let m-is : c.rounded-m.result ≡ (whole_root 54 (folded * 18014398509481984) + 1) / 2 =
-    let r = c.exact_root-root in
-    rounded_under folded r.result.q r.result.rem c.rounded-m.result r.ensures.0 c.rounded-m.ensures in
-    let u = under in
-    omega (arith, digits.small, m_lt folded c.rounded-m.result u.0 u.1 m-is)
+    let d = digits c.args.v c.well_formed.0.1 c.in_default.ensures _ c.taken_apart-p.ensures in
+    let m = m_small c.args.v c.well_formed.0.1 c.in_default.ensures _ c.taken_apart-p.ensures
+    _ c.radicand-t.ensures c.exact_root-root.result c.exact_root-root.ensures _ c.rounded-m.ensures in
+    omega (arith, d.small, m)
 
 pub float_from_bits-result : goal.float_from_bits-result
-unfolding of_bits round
 float_from_bits-result c =
-    let held : T (fits binary64 c.args.v) = subst T (sym c.well_formed.0.1) tt in
-    let is_pos : T (positive c.args.v) =
-    is_positive c.args.v c.if-v.false c.if-v-2.false c.if-v-3.false
-    c.if-v-4.false in
-    let digits : Digits c.args.v c.taken_apart-p.result.digits c.taken_apart-p.result.size =
-    subst (λ (r : Parts). Digits c.args.v r.digits r.size) (sym c.taken_apart-p.ensures)
-    (digits_of c.args.v held is_pos) in
-    let under : Under c.args.v c.taken_apart-p.result.size c.radicand-t.result =
-    let r = c.taken_apart-p.result in
-    subst (Under c.args.v r.size) (sym c.radicand-t.ensures)
-    (even_exponent c.args.v r.digits r.size digits) in
-    let folded : ℕ = c.radicand-t.result in
-    let m-is : c.rounded-m.result ≡ (whole_root 54 (folded * 18014398509481984) + 1) / 2 =
-    let r = c.exact_root-root in
-    rounded_under folded r.result.q r.result.rem c.rounded-m.result r.ensures.0 c.rounded-m.ensures in
-    let u = under in
-    no_nan folded c.rounded-m.result u.0 u.1 m-is _ (omega (arith, digits.small))
+    bits_no_nan c.args.v c.well_formed.0.1 c.in_default.ensures _ c.taken_apart-p.ensures
+    _ c.radicand-t.ensures c.exact_root-root.result c.exact_root-root.ensures _ c.rounded-m.ensures
 
 pub returns : goal.returns
-unfolding of_bits round
 returns c =
-    let held : T (fits binary64 c.args.v) = subst T (sym c.well_formed.0.1) tt in
-    let is_pos : T (positive c.args.v) =
-    is_positive c.args.v c.if-v.false c.if-v-2.false c.if-v-3.false
-    c.if-v-4.false in
-    let digits : Digits c.args.v c.taken_apart-p.result.digits c.taken_apart-p.result.size =
-    subst (λ (r : Parts). Digits c.args.v r.digits r.size) (sym c.taken_apart-p.ensures)
-    (digits_of c.args.v held is_pos) in
-    let under : Under c.args.v c.taken_apart-p.result.size c.radicand-t.result =
-    let r = c.taken_apart-p.result in
-    subst (Under c.args.v r.size) (sym c.radicand-t.ensures)
-    (even_exponent c.args.v r.digits r.size digits) in
-    let folded : ℕ = c.radicand-t.result in
-    let m-is : c.rounded-m.result ≡ (whole_root 54 (folded * 18014398509481984) + 1) / 2 =
-    let r = c.exact_root-root in
-    rounded_under folded r.result.q r.result.rem c.rounded-m.result r.ensures.0 c.rounded-m.ensures in
-    let u = under in
-    let v = c.args.v in
-    let z = c.taken_apart-p.result.size in
-    both v _ held
-    (bits folded c.rounded-m.result u.0 u.1 m-is ((z + 969) / 2) (omega (arith, digits.small))
-    ∙ at_digits v folded z is_pos digits.places u)
+    both c.args.v c.well_formed.0.1 _
+    (root_is c.args.v c.well_formed.0.1 c.in_default.ensures _ c.taken_apart-p.ensures
+    _ c.radicand-t.ensures c.exact_root-root.result c.exact_root-root.ensures _ c.rounded-m.ensures)

@@ -1,14 +1,9 @@
--- `rows::evidence_of`: an arm for each case. Assumes nothing.
-use lib.Ieee.{of_bits, round}
-use Rattle.brent.specs.Outcome.{zeros}
-use Rattle.blackscholes.specs.Implied.{outcome_of_implied}
+-- `rows::evidence_of`: the zeros of a refusal, as the code writes them. Assumes nothing.
+use Rattle.limits.proofs.Float.{of_bits, round}
+use Rattle.brent.specs.Outcome.{zeros, outcome_of_implied}
 use Rattle.ledger.specs.Rows.{evidence_of}
 use Rattle.rows.proofs.evidence_of.Goals as goal
 
-pub returns-in-Found : goal.returns-in-Found
-unfolding evidence_of outcome_of_implied
-returns-in-Found c = rw c.in-Found.is
-
-pub returns-in-Refused : goal.returns-in-Refused
+pub returns-in-Err : goal.returns-in-Err
 unfolding evidence_of outcome_of_implied zeros of_bits round
-returns-in-Refused c = rw c.in-Refused.is
+returns-in-Err c = rw c.in-Err.is

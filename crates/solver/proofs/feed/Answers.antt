@@ -1,90 +1,42 @@
--- `solver::feed`: the checks' number decides first, then the evaluations, then convergence. Assumes nothing.
+-- `solver::feed`: the checks decide first, 21 before the others; a state that 21 lets through holds at most 50 rounds and 52 evaluations, so that no sum
+-- wraps. Assumes nothing.
 use mathlib.Core.Path.{◌≡◌, refl, sym, ◌∙◌}
-use mathlib.Core.Bool.{Bool, true, false}
+use mathlib.Core.Bool.{false, not}
+use mathlib.Core.List.{[], ◌∷◌}
 use native.Mathlib.Omega.{arith}
+use borrow.Author.Tests.{ne_eqb}
+use lib.Dec.{leb}
 use lib.Ieee.{Float}
-use borrow.Author.Tests.{eq-eqb, ne_eqb}
-use Rattle.limits.specs.Checks.{first}
+use Rattle.floats.specs.Values.{finite}
+use Rattle.limits.specs.Checks.{first, none}
+use Rattle.limits.proofs.Checks.{elsewhere}
+use Rattle.limits.proofs.Refusals.{some}
 use Rattle.brent.specs.declared.Solver.{Solver}
-use Rattle.brent.specs.Outcome.{outcome}
-use Rattle.brent.specs.Feed.{is_unusable, feed_number, feed}
-use Rattle.brent.proofs.Cases.{Usable, usable}
+use Rattle.brent.specs.Outcome.{outcome, outcome_of_implied}
+use Rattle.brent.specs.Feed.{most_rounds, is_unusable, is_unbracketed, feed_number, feed}
+use Rattle.brent.proofs.Cases.{usable}
 use Rattle.solver.proofs.feed.Goals as goal
 
--- so no sum wraps: a state that is not answered by 21 holds at most 50 rounds and 52 evaluations
-held : (s : Solver) (error : Float) → (feed_number s error ≡ 21 → ⊥) → Usable s
-held s error h = go (is_unusable s) refl
-  where
-    at_21 : is_unusable s ≡ true → feed_number s error ≡ 21
-    at_21 e = unfold feed_number in unfold first in simp e
+not_21 : (s : Solver) (error : Float) → is_unusable s ≡ false → feed_number s error ≡ 21 → ⊥
+unfolding feed_number first
+not_21 s error h e =
+    let rest : none ≡ 21 =
+    elsewhere 21 ((not (finite error), 11) ∷ (is_unbracketed s error, 12) ∷ (leb most_rounds s.rounds, 13) ∷ []) none refl (rw h at e) in
+    omega arith
 
-    go : (b : Bool) → is_unusable s ≡ b → Usable s
-    go true e = absurd (h (at_21 e))
-    go false e = usable s e
+pub returns-then-is_unusable : goal.returns-then-is_unusable
+unfolding outcome outcome_of_implied feed feed_number first
+returns-then-is_unusable c = let t = sym c.is_unusable.ensures ∙ c.if-is_unusable.true in simp t
 
-pub returns-then-number-eq21 : goal.returns-then-number-eq21
-unfolding outcome feed
-returns-then-number-eq21 c = simp (sym c.feed_number-number.ensures ∙ c.if-number-eq21.true)
-
-pub overflow_add-n : goal.overflow_add-n
-overflow_add-n c = omega (arith, (held c.args.s _ (λ e. c.if-number-eq21.false (c.feed_number-number.ensures ∙ e))).evaluations)
-
-pub returns-then-number-ne0 : goal.returns-then-number-ne0
-unfolding feed
-returns-then-number-ne0 c = simp (
-  c.refuse.ensures,
-  sym c.feed_number-number.ensures,
-  ne_eqb _ _ c.if-number-eq21.false,
-  ne_eqb _ _
-      c.if-number-ne0.true,
-)
-
-pub returns-then-made-eq0 : goal.returns-then-made-eq0
-unfolding feed
-returns-then-made-eq0 c =
-    simp (
-      c.ask.ensures,
-      c.placed-q.ensures,
-      sym
-          c.feed_number-number.ensures ∙ c.if-number-ne0.false,
-      eq-eqb _ _ c.if-made-eq0.true,
-    )
-
-pub returns-then-converged : goal.returns-then-converged
-unfolding feed
-returns-then-converged c =
-    let t = simp (c.placed-q.ensures, c.reset.ensures, c.swap-p.ensures, c.converged.ensures)
-    at c.if-converged.true in
-    simp (
-      c.find.ensures,
-      c.placed-q.ensures,
-      c.reset.ensures,
-      c.swap-p.ensures,
-      sym c.feed_number-number.ensures ∙ c.if-number-ne0.false,
-      ne_eqb _ _ c.if-made-eq0.false,
-      t,
-    )
+pub overflow_add-evaluations : goal.overflow_add-evaluations
+overflow_add-evaluations c = omega (arith, (usable c.args.s (sym c.is_unusable.ensures ∙ c.if-is_unusable.false)).evaluations)
 
 pub overflow_add-s : goal.overflow_add-s
-overflow_add-s c = omega (
-  arith,
-  (held c.args.s _
-      (λ e. c.if-number-eq21.false
-      (c.feed_number-number.ensures ∙ e))).rounds,
-)
+overflow_add-s c = omega (arith, (usable c.args.s (sym c.is_unusable.ensures ∙ c.if-is_unusable.false)).rounds)
 
-pub returns : goal.returns
+pub returns-in-Err : goal.returns-in-Err
 unfolding feed
-returns c =
-    let t = simp (c.placed-q.ensures, c.reset.ensures, c.swap-p.ensures, c.converged.ensures)
-    at c.if-converged.false in
-    simp (
-      c.ask-2.ensures,
-      c.advance.ensures,
-      c.placed-q.ensures,
-      c.reset.ensures,
-      c.swap-p.ensures,
-      sym c.feed_number-number.ensures ∙ c.if-number-ne0.false,
-      ne_eqb _ _ c.if-made-eq0.false,
-      t,
-    )
+returns-in-Err c =
+    let n = c.in-Err.ensures in
+    let t = sym c.is_unusable.ensures ∙ c.if-is_unusable.false in
+    simp (c.refuse.ensures, sym n, ne_eqb _ 21 (λ e. not_21 c.args.s _ t (sym n ∙ e)), ne_eqb _ none (some c.in-Err.refusal))

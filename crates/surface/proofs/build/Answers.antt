@@ -1,79 +1,61 @@
--- `surface::build`: what is prepared is what is written. Assumes nothing.
-use Rattle.chart.specs.Quotes.{Columns, columns_of}
-use Rattle.chart.specs.Build.{Buffers, buffers_of, is_small, refusal}
-use Rattle.chart.proofs.BuildChecks.{told, refused_by, done_by}
-use Rattle.chart.proofs.Made.{made_size}
-use Prim.Native.Nat.{◌≤◌}
-use mathlib.Core.Path.{◌≡◌, refl, sym, ◌∙◌}
-use lib.ListN.{length}
-use lib.Seq.{length-take-le}
+-- `surface::build`: the steps of a build, each with what the one before it promises. Assumes nothing.
+use Rattle.std.proofs.lemmas.Result.{err_from_is_err_and}
+use Rattle.limits.proofs.Refusals.{some}
+use Rattle.chart.proofs.Builds as builds
+use Rattle.chart.proofs.Builds.{Cut}
+use Rattle.admission.specs.Lent.{columns_in, buffers_in}
+use mathlib.Core.Path.{sym, ◌∙◌}
+use native.Mathlib.Omega.{arith}
 use Rattle.surface.proofs.build.Goals as goal
 
-pub prepare-p-requires : goal.prepare-p-requires
-prepare-p-requires c = (refl, refl)
+pub returns-in_err-check_quotes-clause-builds : goal.returns-in_err-check_quotes-clause-builds
+returns-in_err-check_quotes-clause-builds c =
+    let p = err_from_is_err_and c.from_residual.result c.from_residual.ensures.1 in
+    let why = c.in_err-check_quotes in
+    rw (p.1, p.2)
+    (builds.quotes_refused (columns_in c.args.quotes.now) c.args.count (buffers_in c.args.buffers.now) _ c.is_small.ensures _ why.ensures (some why.field-0.0))
 
-pub returns-then-number-ne0 : goal.returns-then-number-ne0
-unfolding is_small
-returns-then-number-ne0 c =
-    let lent : Columns = columns_of c.args.strikes.now c.args.expiries.now c.args.volatilities.now in
-    let into : Buffers = buffers_of c.args.strike_axis.now c.args.expiry_axis.now c.args.grid.now c.args.counts.now in
-    let checked : refusal lent c.args.count into ≡ c.prepare-p.result.number =
-    told lent c.args.count into _ c.is_small-small.ensures ∙ sym c.prepare-p.ensures.checked in
-    refused_by _ _ _ _ checked c.if-number-ne0.true
+pub make_axis-columns-requires : goal.make_axis-columns-requires
+make_axis-columns-requires c =
+    let C : Cut (columns_in c.args.quotes.now) c.args.count (buffers_in c.args.buffers.now) (columns_in c.first-quotes.result) =
+    record { small = _; is = c.is_small.ensures; passed = c.in_ok-check_quotes.ensures; first = c.first-quotes.ensures } in
+    (omega (arith, builds.few C, builds.strikes_cut C), builds.strikes_above_zero C)
 
-pub slice_bounds-ks-end : goal.slice_bounds-ks-end
-slice_bounds-ks-end c =
-    let axes-in : let p = c.prepare-p in (p.result.columns ≤ length p.new.ks) × (p.result.rows ≤ length p.new.ts) = c.prepare-p.ensures.long in
-    axes-in.0
+pub make_axis-rows-requires : goal.make_axis-rows-requires
+make_axis-rows-requires c =
+    let C : Cut (columns_in c.args.quotes.now) c.args.count (buffers_in c.args.buffers.now) (columns_in c.first-quotes.result) =
+    record { small = _; is = c.is_small.ensures; passed = c.in_ok-check_quotes.ensures; first = c.first-quotes.ensures } in
+    (omega (arith, builds.few C, builds.expiries_cut C), builds.expiries_above_zero C)
 
-pub slice_bounds-write-end : goal.slice_bounds-write-end
-slice_bounds-write-end c =
-    let axes-in : let p = c.prepare-p in (p.result.columns ≤ length p.new.ks) × (p.result.rows ≤ length p.new.ts) = c.prepare-p.ensures.long in
-    sym (length-take-le _ _ axes-in.0)
+pub returns-in_err-check_axes-clause-builds : goal.returns-in_err-check_axes-clause-builds
+returns-in_err-check_axes-clause-builds c =
+    let C : Cut (columns_in c.args.quotes.now) c.args.count (buffers_in c.args.buffers.now) (columns_in c.first-quotes.result) =
+    record { small = _; is = c.is_small.ensures; passed = c.in_ok-check_quotes.ensures; first = c.first-quotes.ensures } in
+    let K = c.make_axis-columns.ensures in
+    let T = c.make_axis-rows.ensures in
+    let p = err_from_is_err_and c.from_residual-in_err-check_axes.result c.from_residual-in_err-check_axes.ensures.1 in
+    let why = c.in_err-check_axes in
+    rw (p.1, p.2) (builds.axes_refused C _ _ _ _ K.1 T.1 K.0 T.0 _ why.ensures (some why.field-0.0))
 
-pub slice_bounds-ts-end : goal.slice_bounds-ts-end
-slice_bounds-ts-end c =
-    let axes-in : let p = c.prepare-p in (p.result.columns ≤ length p.new.ks) × (p.result.rows ≤ length p.new.ts) = c.prepare-p.ensures.long in
-    axes-in.1
+pub write-requires-clause-one_length : goal.write-requires-clause-one_length
+write-requires-clause-one_length c =
+    let C : Cut (columns_in c.args.quotes.now) c.args.count (buffers_in c.args.buffers.now) (columns_in c.first-quotes.result) =
+    record { small = _; is = c.is_small.ensures; passed = c.in_ok-check_quotes.ensures; first = c.first-quotes.ensures } in
+    let n = builds.strikes_cut C in
+    record { expiries = builds.expiries_cut C ∙ sym n; volatilities = builds.volatilities_cut C ∙ sym n }
 
-pub slice_bounds-write-end-2 : goal.slice_bounds-write-end-2
-slice_bounds-write-end-2 c =
-    let axes-in : let p = c.prepare-p in (p.result.columns ≤ length p.new.ks) × (p.result.rows ≤ length p.new.ts) = c.prepare-p.ensures.long in
-    sym (length-take-le _ _ axes-in.1)
+pub write-requires-clause-accepted : goal.write-requires-clause-accepted
+write-requires-clause-accepted c =
+    let C : Cut (columns_in c.args.quotes.now) c.args.count (buffers_in c.args.buffers.now) (columns_in c.first-quotes.result) =
+    record { small = _; is = c.is_small.ensures; passed = c.in_ok-check_quotes.ensures; first = c.first-quotes.ensures } in
+    let K = c.make_axis-columns.ensures in
+    let T = c.make_axis-rows.ensures in
+    builds.written C _ _ _ _ K.1 T.1 K.0 T.0 c.in_ok-check_axes.ensures
 
-pub write-requires : goal.write-requires
-unfolding is_small
-write-requires c =
-    let lent : Columns = columns_of c.args.strikes.now c.args.expiries.now c.args.volatilities.now in
-    let into : Buffers = buffers_of c.args.strike_axis.now c.args.expiry_axis.now c.args.grid.now c.args.counts.now in
-    let checked : refusal lent c.args.count into ≡ c.prepare-p.result.number =
-    told lent c.args.count into _ c.is_small-small.ensures ∙ sym c.prepare-p.ensures.checked in
-    record {
-      unchecked = checked ∙ c.if-number-ne0.false;
-      strikes = c.prepare-p.ensures.strikes c.if-number-ne0.false;
-      expiries = c.prepare-p.ensures.expiries c.if-number-ne0.false;
-    }
-
-pub shape_of-strike_axis : goal.shape_of-strike_axis
-shape_of-strike_axis c = c.write.auto.strike_axis
-
-pub shape_of-expiry_axis : goal.shape_of-expiry_axis
-shape_of-expiry_axis c = c.write.auto.expiry_axis
-
-pub shape_of-grid : goal.shape_of-grid
-shape_of-grid c = c.write.auto.grid
-
-pub shape_of-counts : goal.shape_of-counts
-shape_of-counts c = c.write.auto.counts
-
-pub returns : goal.returns
-unfolding is_small
-returns c =
-    let lent : Columns = columns_of c.args.strikes.now c.args.expiries.now c.args.volatilities.now in
-    let into : Buffers = buffers_of c.args.strike_axis.now c.args.expiry_axis.now c.args.grid.now c.args.counts.now in
-    let checked : refusal lent c.args.count into ≡ c.prepare-p.result.number =
-    told lent c.args.count into _ c.is_small-small.ensures ∙ sym c.prepare-p.ensures.checked in
-    let axes-in : let p = c.prepare-p in (p.result.columns ≤ length p.new.ks) × (p.result.rows ≤ length p.new.ts) = c.prepare-p.ensures.long in
-    let P = c.prepare-p.ensures in
-    let z = c.if-number-ne0.false in
-    done_by _ _ _ _ _ _ (checked ∙ z) (made_size _ _ _ axes-in.0 (P.strikes z)) (made_size _ _ _ axes-in.1 (P.expiries z)) c.write.ensures
+pub returns-clause-builds : goal.returns-clause-builds
+returns-clause-builds c =
+    let C : Cut (columns_in c.args.quotes.now) c.args.count (buffers_in c.args.buffers.now) (columns_in c.first-quotes.result) =
+    record { small = _; is = c.is_small.ensures; passed = c.in_ok-check_quotes.ensures; first = c.first-quotes.ensures } in
+    let K = c.make_axis-columns.ensures in
+    let T = c.make_axis-rows.ensures in
+    builds.built C _ _ _ _ K.1 T.1 K.0 T.0 c.in_ok-check_axes.ensures _ c.write.ensures.written

@@ -9,9 +9,6 @@ use lib.ListN.{length, take}
 use native.Mathlib.Omega.{arith}
 use Rattle.surface.proofs.insert_into.Goals as goal
 
-pub first_above-p-requires : goal.first_above-p-requires
-first_above-p-requires c = (omega (arith, c.requires.0), c.requires.1, c.requires.2)
-
 pub stands-requires : goal.stands-requires
 stands-requires c =
     let A = c.args in

@@ -1,8 +1,0 @@
-use native.Mathlib.Omega.{arith}
-use Rattle.blotter.proofs.say_axis.Goals as goal
-
-pub loop-i-init : goal.loop-i-init
-loop-i-init c = (omega arith, omega arith)
-
-pub loop-i-preserved : goal.loop-i-preserved
-loop-i-preserved c = (omega arith, omega arith)

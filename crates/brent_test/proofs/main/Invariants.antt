@@ -1,8 +1,0 @@
--- `brent_test::main`: each turn reads a line whole and leaves one turn fewer. Assumes nothing.
-use Rattle.brent_test.proofs.main.Given as goal
-
-abbrev pub invariant-loop-left : goal.invariant-loop-left
-invariant-loop-left l = Unit
-
-abbrev pub decreases-loop-left : goal.decreases-loop-left
-decreases-loop-left l = l.left

@@ -1,8 +1,0 @@
--- `greeks::d1d2`: the definitions, with the prepared parts in their places. Assumes nothing.
-use lib.Ieee.{of_bits, round}
-use Rattle.blackscholes.specs.Model.{spread, d1, d2}
-use Rattle.greeks.proofs.d1d2.Goals as goal
-
-pub returns : goal.returns
-unfolding spread d1 d2 of_bits round
-returns c = simp (c.requires.moneyness, c.requires.root)

@@ -1,8 +1,0 @@
--- `greeks_test::main`: each kind of record leaves one fewer to run. Assumes nothing.
-use Rattle.greeks_test.proofs.main.Given as goal
-
-abbrev pub invariant-loop-left : goal.invariant-loop-left
-invariant-loop-left l = Unit
-
-abbrev pub decreases-loop-left : goal.decreases-loop-left
-decreases-loop-left l = l.left
