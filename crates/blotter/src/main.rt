@@ -31,14 +31,6 @@ enum Failure {
 
 // ---- a line written
 
-// The 16 digits of a word.
-fn digits_of(word: u64) -> [u8; 16] {
-    let mut digits = [0; 16];
-    io::hex(word, 16, &mut digits);
-    digits.make_ascii_uppercase();
-    digits
-}
-
 // A line of a name and at most eight words, in one write.
 fn say(name: &[u8; 6], words: &[u64]) -> Result<(), Failure>
     requires { length words.now ≤ 8 }
@@ -47,7 +39,7 @@ fn say(name: &[u8; 6], words: &[u64]) -> Result<(), Failure>
     text[..6].copy_from_slice(name);
     for (i, &word) in words.iter().enumerate() {
         let at = 7 + 17 * i;
-        text[at..at + 16].copy_from_slice(&digits_of(word));
+        text[at..at + 16].copy_from_slice(&frames::digits_of(word));
     }
     let end = 6 + 17 * words.len();
     text[end] = b'\n';
@@ -68,10 +60,7 @@ fn word_of(text: &[u8]) -> Option<u64> {
     if !digits.iter().all(|&b| frames::is_digit(b)) {
         return None;
     }
-    let word = digits
-        .iter()
-        .fold(0, |word, &b| (word << 4) | frames::digit_value(b));
-    Some(word)
+    frames::word_of(digits)
 }
 
 // A line's name and what it asks. No request has more than six words.
