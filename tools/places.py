@@ -51,7 +51,7 @@ def functions(path, text):
     """Yields the place, the name and the body's lines of each function, as rt fmt lays it out."""
     lines = text.split("\n")
     for at, line in enumerate(lines):
-        head = re.match(r'( *)(pub )?(extern "C" )?fn (\w+)', line)
+        head = re.match(r'( *)(pub(?:\(crate\))? )?(extern "C" )?fn (\w+)', line)
         if not head:
             continue
         end = next(it for it in range(at, len(lines)) if lines[it] == head[1] + "}" or (it == at and line.endswith("}")))

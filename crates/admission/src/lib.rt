@@ -1,7 +1,7 @@
 // What turns a build down: 1, 2 and 15 of what is lent, 16 and 17 of the axes' lengths.
 #![tactic(auto)]
 
-ghost use Rattle.std.specs.Prelude.{◌≡◌, ◌&&◌, take};
+ghost use Rattle.std.specs.Prelude.{◌≡◌, ◌&&◌, ◌||◌, ltb, take};
 ghost use Rattle.limits.specs.Ranges.{is_strike, is_expiry, is_volatility};
 ghost use Rattle.limits.specs.Checks.{none};
 ghost use Rattle.limits.specs.Refusals.{number_in};
@@ -12,7 +12,8 @@ ghost use Rattle.admission.specs.Lent.{columns_in, buffers_in};
 
 use limits::{Refusal, check};
 
-// The quotes of a build: a column of strikes, of expiries and of volatilities.
+// The quotes of a build: a column of strikes, of expiries and of volatilities. They are several slices, and no slice of records, since the C interface
+// lends them so.
 #[derive(Clone, Copy)]
 pub struct Quotes<'a> {
     pub strikes: &'a [f64],
@@ -20,7 +21,8 @@ pub struct Quotes<'a> {
     pub volatilities: &'a [f64],
 }
 
-// Where a surface is written: both axes, the cells, their counts.
+// Where a surface is written: both axes, the cells, their counts, in slices of their own, as the C interface lends them. That a call leaves the same memory
+// lent is a clause of each (`SameBuffers`): it speaks of before and after, where a field or an invariant speaks of one moment.
 #[derive(Drop)]
 pub struct SurfaceBuffers<'a> {
     pub strike_axis: &'a mut [f64],
@@ -67,8 +69,8 @@ fn are_quotes(quotes: &Quotes<'_>) -> bool
         .all(|((strike, expiry), volatility)| is_quote(*strike, *expiry, *volatility))
 }
 
-// 1, 2 and 15: what can be said before there are axes. `small` is whether 15 holds. An entry is read only where the columns have it, so 1 and the
-// number kept return before.
+// 1, 2 and 15: what can be said before there are axes. `small` is whether 15 holds, of the buffers. An entry is read only where the columns have it, so 1, and
+// 2 of the number kept, are told first.
 #[tactic(auto, unfolding(chart::specs::Quotes::is_short, chart::specs::Build::is_wrong, limits::specs::Checks::first))]
 pub fn check_quotes(quotes: &Quotes<'_>, kept: u64, small: bool) -> Result<(), Refusal>
     ensures { number_in result ≡ number_by (columns_in quotes.now) kept small none }
@@ -92,13 +94,24 @@ pub fn check_axes(strikes: usize, expiries: usize) -> Result<(), Refusal>
     check(expiries <= 32, Refusal::TooManyExpiries)
 }
 
-// 15, of the lengths of the four buffers.
-#[tactic(auto, unfolding(chart::specs::Build::is_small))]
-pub fn is_small(buffers: &SurfaceBuffers<'_>) -> bool
-    ensures { result ≡ is_small (buffers_in buffers.now) }
+// 15, of the lengths of the four buffers, for one who has them and no buffers.
+pub fn is_small(strikes: usize, expiries: usize, grid: usize, counts: usize) -> bool
+    ensures { result ≡ (ltb strikes 64 || ltb expiries 32 || ltb grid 2048 || ltb counts 2048) }
 {
-    buffers.strike_axis.len() < 64
-        || buffers.expiry_axis.len() < 32
-        || buffers.grid.len() < 2048
-        || buffers.counts.len() < 2048
+    strikes < 64 || expiries < 32 || grid < 2048 || counts < 2048
+}
+
+impl SurfaceBuffers<'_> {
+    // 15
+    #[tactic(auto, unfolding(chart::specs::Build::is_small))]
+    pub fn is_small(&self) -> bool
+        ensures { result ≡ is_small (buffers_in self.now) }
+    {
+        is_small(
+            self.strike_axis.len(),
+            self.expiry_axis.len(),
+            self.grid.len(),
+            self.counts.len(),
+        )
+    }
 }

@@ -1,10 +1,10 @@
 // Whole trays: a fresh book hears a list of offers from lent slices, and a surface is built of what it kept.
 #![tactic(auto)]
 
-ghost use Rattle.std.specs.Prelude.{◌<◌, ◌≤◌, length};
 ghost use Rattle.admission.specs.Lent.{buffers_in, SameBuffers};
 ghost use Rattle.book.specs.Lent.{columns_held, SameColumns};
-ghost use Rattle.trays.specs.Tray.{offers, answers, HearsAll, lent, heard_offers, reply_of, QuotesTray};
+ghost use Rattle.trays.specs.Tray.{HearsAll, lent, heard_offers, reply_of, QuotesTray};
+ghost use Rattle.batch.specs.Lent.{answers_in, SameAnswers};
 
 use admission::SurfaceBuffers;
 use book::QuoteColumns;
@@ -12,59 +12,75 @@ use ledger::{Book, Opening, Unopened};
 use rows::{evidence_of, numbers_of, offer_of, shortest};
 use trays::Tray;
 
-// The first n offers of the slices, each with the record and the columns as the last left them.
+// A list of offers: each is a row of `kinds` (a price or a volatility, of a put or a call) and one of `figures` (strike, expiry, value). They are two slices,
+// and no slice of offers, since the C interface lends them so.
+#[derive(Clone, Copy)]
+pub struct Offers<'a> {
+    pub kinds: &'a [[bool; 2]],
+    pub figures: &'a [[f64; 3]],
+}
+
+// Where the answers are written: of each a row of `numbers` (0 for accepted, evaluations) and one of `evidence` (volatility, error, point c and its error),
+// in two slices, as the C interface lends them.
+#[derive(Drop)]
+pub struct Answers<'a> {
+    pub numbers: &'a mut [[u64; 2]],
+    pub evidence: &'a mut [[f64; 4]],
+}
+
+// As many offers as the shortest of the four slices has rows, each with the record and the columns as the last left them.
+// (A loop over the four rows zipped, both of the answers by `iter_mut`, was tried: the proof knows nothing of what `numbers` and `evidence` hold after it.)
 fn hear_all(
     book: Book,
-    n: usize,
-    kinds: &[[bool; 2]],
-    figures: &[[f64; 3]],
-    numbers: &mut [[u64; 2]],
-    evidence: &mut [[f64; 4]],
+    offers: &Offers<'_>,
+    answers: &mut Answers<'_>,
     columns: &mut QuoteColumns<'_>,
 ) -> Book
-    requires { (n ≤ length kinds.now) × (n ≤ length figures.now) × (n ≤ length numbers.old) × (n ≤ length evidence.old) }
-    ensures same_memory { SameColumns columns.new columns.old }
+    ensures same_answers { SameAnswers answers.new answers.old }
+    ensures same_columns { SameColumns columns.new columns.old }
     ensures hears { HearsAll
         (record { book = book; columns = columns_held columns.old })
-        (offers kinds.now figures.now n)
-        (answers numbers.old evidence.old)
+        (heard_offers offers.now.kinds.now offers.now.figures.now (answers_in answers.old))
+        (answers_in answers.old)
         result
         (columns_held columns.new)
-        (answers numbers.new evidence.new) }
+        (answers_in answers.new) }
 {
+    let n = shortest(
+        offers.kinds.len(),
+        offers.figures.len(),
+        answers.numbers.len(),
+        answers.evidence.len(),
+    );
     let mut b = book;
     for i in 0..n {
-        let heard = book::offer(b, offer_of(kinds[i], figures[i]), columns);
-        numbers[i] = numbers_of(heard.answer);
-        evidence[i] = evidence_of(heard.answer);
+        let heard = book::offer(b, offer_of(offers.kinds[i], offers.figures[i]), columns);
+        answers.numbers[i] = numbers_of(heard.answer);
+        answers.evidence[i] = evidence_of(heard.answer);
         b = heard.book;
     }
     b
 }
 
-// A whole tray: opens a fresh book, hears the list, builds. Offers and answers are four slices of rows, as the C interface needs it. An offer is a row of
-// `kinds` (a price or a volatility, of a put or a call) and one of `figures` (strike, expiry, value); its answer a row of `numbers` (0 for accepted,
-// evaluations) and one of `evidence` (volatility, error, point c and its error).
+// A whole tray: opens a fresh book, hears the list, builds.
 pub fn quote_tray(
     opening: Opening,
-    kinds: &[[bool; 2]],
-    figures: &[[f64; 3]],
-    numbers: &mut [[u64; 2]],
-    evidence: &mut [[f64; 4]],
+    offers: &Offers<'_>,
+    answers: &mut Answers<'_>,
     columns: &mut QuoteColumns<'_>,
     buffers: &mut SurfaceBuffers<'_>,
 ) -> Result<Tray, Unopened>
+    ensures same_answers { SameAnswers answers.new answers.old }
     ensures same_columns { SameColumns columns.new columns.old }
     ensures same_buffers { SameBuffers buffers.new buffers.old }
     ensures quotes { QuotesTray opening
-        (heard_offers kinds.now figures.now (answers numbers.old evidence.old))
-        (lent (answers numbers.old evidence.old) (columns_held columns.old) (buffers_in buffers.old))
+        (heard_offers offers.now.kinds.now offers.now.figures.now (answers_in answers.old))
+        (lent (answers_in answers.old) (columns_held columns.old) (buffers_in buffers.old))
         (reply_of result)
-        (lent (answers numbers.new evidence.new) (columns_held columns.new) (buffers_in buffers.new)) }
+        (lent (answers_in answers.new) (columns_held columns.new) (buffers_in buffers.new)) }
 {
     let fresh = book::open(opening)?;
-    let n = shortest(kinds.len(), figures.len(), numbers.len(), evidence.len());
-    let book = hear_all(fresh, n, kinds, figures, numbers, evidence, columns);
-    let built = book::build(book, columns, buffers);
+    let book = hear_all(fresh, offers, answers, columns);
+    let built = book::build(book, &columns.quotes(), buffers);
     Ok(Tray { book, built })
 }

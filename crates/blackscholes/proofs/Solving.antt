@@ -1,5 +1,5 @@
 -- The loop that feeds a solver the prices of a function is brent's run on them, a price at a time. Assumes nothing.
-use Rattle.std.specs.Prelude.{Result}
+use Rattle.std.specs.Prelude.{Result, Err}
 use mathlib.Core.Path.{◌≡◌, refl, sym, ap, ◌∙◌, subst}
 use Prim.Native.Nat.{ℕ, zero, suc, ◌+◌}
 use native.Mathlib.Omega.{arith}
@@ -10,7 +10,7 @@ use Rattle.brent.specs.declared.Answer.TheVariants.{Ask, Ended}
 use Rattle.brent.specs.declared.Solution.{Solution}
 use Rattle.brent.specs.declared.Unsolved.{Unsolved}
 use Rattle.brent.specs.Outcome.{Reply, asking, ended, outcome_of_implied, outcome}
-use Rattle.brent.specs.Feed.{feed}
+use Rattle.brent.specs.Feed.{feed, over}
 use Rattle.brent.specs.Run.{feed_with, run_with}
 use Rattle.brent.proofs.Theorem.{claim}
 use Rattle.blackscholes.specs.Implied.{Closed, replied}
@@ -25,11 +25,23 @@ again (suc n) m price a v s p r h e f g = let z : m ≡ n = omega arith in simp 
 run_closed : (market : Float) (price : Float → Float) → Closed (run_with market price).reply
 run_closed market price = let d = (claim.modelled market price).done_with in subst Closed (sym d.1) refl
 
-rests : (n : ℕ) (price : Float → Float) (solved : Result Solution Unsolved) (s : Solver)
+rested : (n : ℕ) (price : Float → Float) (solved : Result Solution Unsolved) (s : Solver)
     → (feed_with n price (outcome (Ended solved s))).reply ≡ outcome (Ended solved s)
 unfolding feed_with outcome
-rests zero price solved s = refl
-rests (suc n) price solved s = refl
+rested zero price solved s = refl
+rested (suc n) price solved s = refl
+
+-- a solver that asks nothing rests
+pub rests : (n : ℕ) (price : Float → Float) (a : Answer) → ((v : Float) (s : Solver) → a ≡ Ask v s → ⊥) → (feed_with n price (outcome a)).reply ≡ outcome a
+rests n price (Ask v s) h = absurd (h v s refl)
+rests n price (Ended solved s) h = rested n price solved s
+
+-- one that ended in a refusal is what the loop answers
+pub last_refused : (a : Answer) (why : Unsolved) (s : Solver) → a ≡ Ended (Err why) s → Closed (outcome a) → replied (Err why) ≡ outcome a
+unfolding outcome
+last_refused a why s e h =
+    let k : s ≡ over = subst (λ (w : Answer). Closed (outcome w)) e h in
+    ap (λ (z : Solver). outcome (Ended (Err why) z)) (sym k) ∙ ap outcome (sym e)
 
 -- An answer from which what is left of a run, n prices of it, ends where the whole run does.
 module _ (market : Float) (price : Float → Float) (n : ℕ) (a : Answer) (ends : (feed_with n price (outcome a)).reply ≡ (run_with market price).reply) where
@@ -40,7 +52,7 @@ module _ (market : Float) (price : Float → Float) (n : ℕ) (a : Answer) (ends
   pub last_ended : (solved : Result Solution Unsolved) (s : Solver) → a ≡ Ended solved s → replied solved ≡ (run_with market price).reply
   unfolding outcome
   last_ended solved s e =
-      let last = ap (λ (b : Answer). (feed_with n price (outcome b)).reply) e ∙ rests n price solved s in
+      let last = ap (λ (b : Answer). (feed_with n price (outcome b)).reply) e ∙ rested n price solved s in
       ap (ended (outcome_of_implied solved)) (sym (closed (ended (outcome_of_implied solved) s) last)) ∙ (sym last ∙ ends)
 
   -- and none asks for a price where none is left

@@ -18,7 +18,7 @@ pub struct OptionParams {
     pub option_type: OptionType,
 }
 
-#[derive(Clone, Copy)]
+#[derive(Clone, Copy, Default)]
 pub struct Greeks {
     pub delta: f64,
     pub gamma: f64,

@@ -9,6 +9,7 @@
 ghost use Rattle.std.specs.Prelude.{◌≤◌, length};
 
 use admission::SurfaceBuffers;
+use arrayvec::ArrayVec;
 use blackscholes::{OptionParams, OptionType};
 use book::QuoteColumns;
 use chart::Lengths;
@@ -37,9 +38,8 @@ fn say(name: &[u8; 6], words: &[u64]) -> Result<(), Failure>
 {
     let mut text = [b' '; 143];
     text[..6].copy_from_slice(name);
-    for (i, &word) in words.iter().enumerate() {
-        let at = 7 + 17 * i;
-        text[at..at + 16].copy_from_slice(&frames::digits_of(word));
+    for (place, &word) in text[6..].chunks_exact_mut(17).zip(words) {
+        place[1..].copy_from_slice(&frames::digits_of(word));
     }
     let end = 6 + 17 * words.len();
     text[end] = b'\n';
@@ -52,7 +52,7 @@ fn say(name: &[u8; 6], words: &[u64]) -> Result<(), Failure>
 
 // ---- a line's request
 
-// A word's text: a space, then digits.
+// A word's text: a space, then 16 digits.
 fn word_of(text: &[u8]) -> Option<u64> {
     let [b' ', digits @ ..] = text else {
         return None;
@@ -66,34 +66,26 @@ fn word_of(text: &[u8]) -> Option<u64> {
 // A line's name and what it asks. No request has more than six words.
 fn asked(line: &[u8]) -> Option<(&[u8; 6], Request)> {
     let (name, text) = line.split_first_chunk::<6>()?;
-    let count = text.len() / 17;
-    if text.len() % 17 != 0 || count > 6 {
-        return None;
+    let mut words = ArrayVec::<u64, 6>::new();
+    for word in text.chunks(17) {
+        words.try_push(word_of(word)?).ok()?;
     }
-    let mut words = [0; 6];
-    for (word, digits) in words.iter_mut().zip(text.chunks(17)) {
-        *word = word_of(digits)?;
-    }
-    let request = requests::request_of(name, &words[..count])?;
+    let request = requests::request_of(name, words.as_slice())?;
     Some((name, request))
 }
 
 // ---- a line answered
 
-const NOTHING_BUILT: Lengths = Lengths {
-    strikes: 0,
-    expiries: 0,
-};
-
-fn say_axis(name: &[u8; 6], axis: &[f64], count: usize) -> Result<(), Failure> {
-    for &value in axis.iter().take(count) {
+fn say_axis(name: &[u8; 6], axis: &[f64]) -> Result<(), Failure> {
+    for &value in axis {
         say(name, &[bits_of(value)])?;
     }
     Ok(())
 }
 
-fn say_row(row: &[f64], counts: &[u64], strikes: usize) -> Result<(), Failure> {
-    for (&value, &count) in row.iter().zip(counts).take(strikes) {
+// Each value with its count.
+fn say_row(row: &[f64], counts: &[u64]) -> Result<(), Failure> {
+    for (&value, &count) in row.iter().zip(counts) {
         say(b"cell  ", &slips::cell_words(value, count))?;
     }
     Ok(())
@@ -109,7 +101,7 @@ struct Blotter<'a> {
 }
 
 impl Blotter<'_> {
-    // Before any build it has no axis.
+    // Before any build it has no axis. Why no crate shares it with the tests is said at replay's `Sheet`.
     fn surface(&self) -> Surface<'_> {
         Surface {
             strike_axis: self.buffers.strike_axis,
@@ -134,7 +126,7 @@ impl Blotter<'_> {
 
     // No surface is built of a book that was opened anew. Where that is refused the book is closed: 0.0 is no spot.
     fn open(&mut self, opening: Opening) -> [u64; 1] {
-        self.lengths = NOTHING_BUILT;
+        self.lengths = Lengths::default();
         match book::open(opening) {
             Ok(book) => {
                 self.book = book;
@@ -148,19 +140,20 @@ impl Blotter<'_> {
     }
 
     fn build(&mut self) -> [u64; 3] {
-        let built = book::build(self.book, &self.columns, &mut self.buffers);
-        self.lengths = built.unwrap_or(NOTHING_BUILT);
+        let built = book::build(self.book, &self.columns.quotes(), &mut self.buffers);
+        self.lengths = built.unwrap_or_default();
         slips::build_words(built)
     }
 
     // Both axes, then the cells in use: a row has 64 places.
     fn say_surface(&self) -> Result<(), Failure> {
-        say_axis(b"strike", self.buffers.strike_axis, self.lengths.strikes)?;
-        say_axis(b"expiry", self.buffers.expiry_axis, self.lengths.expiries)?;
-        let rows = self.buffers.grid.chunks(64);
+        let surface = self.surface();
+        say_axis(b"strike", surface.strikes_in_use())?;
+        say_axis(b"expiry", surface.expiries_in_use())?;
+        let rows = surface.grid.chunks(64);
         let cells = rows.zip(self.buffers.counts.chunks(64));
-        for (row, counts) in cells.take(self.lengths.expiries) {
-            say_row(row, counts, self.lengths.strikes)?;
+        for (row, counts) in cells.take(surface.expiries) {
+            say_row(row.get(..surface.strikes).unwrap_or(row), counts)?;
         }
         Ok(())
     }
@@ -211,29 +204,15 @@ impl Blotter<'_> {
 // ---- lines in the input
 
 // So much of a line as has come. Six words end at the 108th byte: a 109th says that the line is too long, and no later one is held.
-#[derive(Drop)]
-struct Line {
-    bytes: [u8; 109],
-    seen: usize,
-    ghost held: { seen ≤ 109 },
-}
-
-impl Line {
-    fn push(&mut self, b: u8) {
-        if self.seen < 109 {
-            self.bytes[self.seen] = b;
-            self.seen += 1;
-        }
-    }
-}
+type Line = ArrayVec<u8, 109>;
 
 // What was read is taken byte by byte, and each line that it ends is heard.
 fn take(input: &[u8], line: &mut Line, blotter: &mut Blotter<'_>) -> Result<(), Failure> {
     for &b in input {
         if b == b'\n' {
-            blotter.hear(&line.bytes[..line.seen])?;
-            line.seen = 0;
-        } else {
+            blotter.hear(line.as_slice())?;
+            line.clear();
+        } else if !line.is_full() {
             line.push(b);
         }
     }
@@ -242,23 +221,18 @@ fn take(input: &[u8], line: &mut Line, blotter: &mut Blotter<'_>) -> Result<(), 
 
 // What a read gave: nothing at the end of the input.
 fn read_some(mut stdin: Stdin, input: &mut [u8]) -> Result<&[u8], Failure> {
-    match stdin.read(input) {
-        Ok(count) => Ok(&input[..count]),
-        Err(_) => Err(Failure::Read),
-    }
+    let count = stdin.read(input).map_err(|_| Failure::Read)?;
+    Ok(&input[..count])
 }
 
 // A buffer of its own, in fixed memory: std's reader of lines takes a pipe byte by byte, and its `BufReader` allocates.
 // Nothing says that an input ends, so the turns are counted, up to a number that no run comes to.
 fn serve(stdin: Stdin, blotter: &mut Blotter<'_>) -> Result<(), Failure> {
     let mut input = [0; 65536];
-    let mut line = Line {
-        bytes: [0; 109],
-        seen: 0,
-    };
+    let mut line = Line::new();
     for _ in 0..u64::MAX {
         let part = read_some(stdin, &mut input)?;
-        if part.is_empty() && line.seen == 0 {
+        if part.is_empty() && line.is_empty() {
             break;
         }
         // At the end of the input a line that lacks its line feed gets it.
@@ -285,7 +259,7 @@ fn main(rt: HostRuntime) {
             grid: &mut [0.0; 2048],
             counts: &mut [0; 2048],
         },
-        lengths: NOTHING_BUILT,
+        lengths: Lengths::default(),
     };
     if let Err(failure) = serve(rt.stdin(), &mut blotter) {
         let message: &[u8] = match failure {

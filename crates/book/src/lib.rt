@@ -18,16 +18,14 @@ use limits::{Refusal, check};
 
 // ---- the opening
 
+// No `From`: a record is made of an opening that was checked.
 fn fresh(opening: Opening) -> Book
     ensures { result ≡ fresh opening }
 {
     Book {
         spot: opening.spot,
         rate: opening.rate,
-        kept: 0,
-        refused: 0,
-        heard: 0,
-        evaluations: 0,
+        ..Book::default()
     }
 }
 
@@ -36,10 +34,7 @@ fn fresh(opening: Opening) -> Book
 pub fn zero_book() -> Book
     ensures { result ≡ zero_book }
 {
-    fresh(Opening {
-        spot: 0.0,
-        rate: 0.0,
-    })
+    Book::default()
 }
 
 // 6 and 9.
@@ -56,16 +51,14 @@ fn check_opening(opening: Opening) -> Result<(), Refusal>
 pub fn open(opening: Opening) -> Result<Book, Unopened>
     ensures { outcome_of_opening result ≡ opened opening }
 {
-    check_opening(opening).map_err(|refusal| Unopened {
-        refusal,
-        book: zero_book(),
-    })?;
+    check_opening(opening)?;
     Ok(fresh(opening))
 }
 
 // ---- the columns
 
-// What a host lends for the quotes that are kept: three arrays and no array of quotes, as the C interface needs it.
+// What a host lends for the quotes that are kept: three slices and no slice of quotes, as the C interface needs it. That a call leaves the same memory lent is
+// a clause of each (`SameColumns`): it speaks of before and after, where a field or an invariant speaks of one moment.
 #[derive(Drop)]
 pub struct QuoteColumns<'a> {
     pub strikes: &'a mut [f64],
@@ -85,18 +78,6 @@ impl QuoteColumns<'_> {
         }
     }
 
-    // 1
-    #[tactic(auto, unfolding(chart::specs::Quotes::is_short))]
-    fn is_short(&self) -> bool
-        ensures { result ≡ is_short (columns_held self.now) }
-    {
-        verdicts::is_short(
-            self.strikes.len(),
-            self.expiries.len(),
-            self.volatilities.len(),
-        )
-    }
-
     // An offer is kept at one place.
     fn file(&mut self, at: usize, o: Offer, volatility: f64)
         requires { Within at (columns_held self.old) }
@@ -109,6 +90,18 @@ impl QuoteColumns<'_> {
     }
 }
 
+// 1
+#[tactic(auto, unfolding(chart::specs::Quotes::is_short))]
+fn is_short(quotes: &Quotes<'_>) -> bool
+    ensures { result ≡ is_short (columns_in quotes.now) }
+{
+    verdicts::is_short(
+        quotes.strikes.len(),
+        quotes.expiries.len(),
+        quotes.volatilities.len(),
+    )
+}
+
 // ---- the offers
 
 // An offer: checks 1 to 5, 7, 8, 10, then the solver of a price. An accepted one is written at index kept.
@@ -117,7 +110,7 @@ pub fn offer(book: Book, offer: Offer, columns: &mut QuoteColumns<'_>) -> Heard
     ensures same_memory { SameColumns columns.new columns.old }
     ensures offers { Offers bsm book (columns_held columns.old) offer result (columns_held columns.new) }
 {
-    let heard = verdicts::decide(book, columns.is_short(), offer);
+    let heard = verdicts::decide(book, is_short(&columns.quotes()), offer);
     let Ok(solution) = heard.answer else {
         return heard;
     };
@@ -131,13 +124,13 @@ pub fn offer(book: Book, offer: Offer, columns: &mut QuoteColumns<'_>) -> Heard
 #[tactic(auto, unfolding(ledger::specs::Build::build_refusal, crate::proofs::Ends::first, crate::proofs::Ends::answered, crate::proofs::Ends::unless_refused))]
 pub fn build(
     book: Book,
-    columns: &QuoteColumns<'_>,
+    quotes: &Quotes<'_>,
     buffers: &mut SurfaceBuffers<'_>,
 ) -> Result<Lengths, Refusal>
     ensures same_memory { SameBuffers buffers.new buffers.old }
-    ensures builds { BuildsBook book (columns_held columns.now) (buffers_in buffers.old) (outcome result) (buffers_in buffers.new) }
+    ensures builds { BuildsBook book (columns_in quotes.now) (buffers_in buffers.old) (outcome result) (buffers_in buffers.new) }
 {
-    check(!columns.is_short(), Refusal::ShortColumn)?;
+    check(!is_short(quotes), Refusal::ShortColumn)?;
     check(!verdicts::is_broken(book), Refusal::OutOfBounds)?;
-    surface::build(&columns.quotes(), book.kept, buffers)
+    surface::build(quotes, book.kept, buffers)
 }

@@ -2,6 +2,8 @@
 // what document 01 says of it, proved for every list of prices. Crate `solver` has the functions.
 #![tactic(auto)]
 
+ghost use Rattle.std.specs.Prelude.{◌≡◌};
+
 use limits::Refusal;
 
 // A round's numbers: the last point a, the best b and the opposing c, their errors, and the last two steps.
@@ -17,7 +19,8 @@ pub struct Points {
     pub e: f64,
 }
 
-// A solver between two prices. An ended one's numbers are all 0.
+// A solver between two prices. Document 01 has it a record of numbers, all 0 where it has ended, and no enum of stages: every one that a host hands in is
+// answered.
 #[derive(Clone, Copy, Default)]
 pub struct Solver {
     pub market: f64,
@@ -41,6 +44,18 @@ pub struct Solution {
 pub struct Unsolved {
     pub refusal: Refusal,
     pub evaluations: u64,
+}
+
+// What a check turned down before any evaluation.
+impl From<Refusal> for Unsolved {
+    ghost from_gives = { λ refusal unsolved. unsolved ≡ record { refusal = refusal; evaluations = 0 } };
+
+    fn from(refusal: Refusal) -> Unsolved {
+        Unsolved {
+            refusal,
+            evaluations: 0,
+        }
+    }
 }
 
 // Asking for the price at a volatility, or ended; `next` is the state that follows.

@@ -4,38 +4,41 @@
 #![tactic(auto)]
 
 use brent::{Answer, Points, Solution, Solver, Unsolved};
+use std::iter;
 
 const STDOUT_FILENO: i32 = 1;
 
 // A letter, 16 digits and a line feed.
 const LINE: usize = 18;
 
-// A digit's value, in lower case; any other character counts as 0.
-fn digit(c: u8) -> u64 {
-    match c {
-        b'0'..=b'9' => u64::from(c - b'0'),
-        b'a'..=b'f' => 10 + u64::from(c - b'a'),
-        _ => 0,
+// The number that follows the letter; 0 where its 16 characters write none.
+fn number(line: &[u8; LINE]) -> u64 {
+    match str::from_utf8(&line[1..17]) {
+        Ok(digits) => u64::from_str_radix(digits, 16).unwrap_or(0),
+        Err(_) => 0,
     }
 }
 
-// The number that follows the letter.
-fn number(line: &[u8; LINE]) -> u64 {
-    line[1..17].iter().fold(0, |n, c| (n << 4) | digit(*c))
+// Each behind a space.
+fn put_all<T: Copy, F: Fn(T)>(values: &[T], put: F)
+    requires { F.IsAlwaysCallable put }
+{
+    for value in values {
+        io::write_all(STDOUT_FILENO, b" ");
+        put(*value);
+    }
 }
 
 fn put_floats(floats: &[f64]) {
-    for x in floats {
-        io::write_all(STDOUT_FILENO, b" ");
-        io::print_hex(STDOUT_FILENO, frames::bits_of(*x), 16);
-    }
+    put_all(floats, |x| {
+        io::print_hex(STDOUT_FILENO, frames::bits_of(x), 16);
+    });
 }
 
 fn put_counts(counts: &[u64]) {
-    for n in counts {
-        io::write_all(STDOUT_FILENO, b" ");
-        io::print_decimal(STDOUT_FILENO, *n);
-    }
+    put_all(counts, |n| {
+        io::print_decimal(STDOUT_FILENO, n);
+    });
 }
 
 fn put_state(s: Solver) {
@@ -113,26 +116,8 @@ fn turn(letter: u8, n: u64, s: Solver) -> Solver {
 }
 
 fn main() {
-    let points = Points {
-        a: 0.0,
-        b: 0.0,
-        c: 0.0,
-        fa: 0.0,
-        fb: 0.0,
-        fc: 0.0,
-        d: 0.0,
-        e: 0.0,
-    };
-    let mut s = Solver {
-        market: 0.0,
-        points,
-        rounds: 0,
-        evaluations: 0,
-    };
-    for _ in 0..1000000 {
-        let Some(line) = vectors::read_line() else {
-            return;
-        };
+    let mut s = Solver::default();
+    for line in iter::from_fn(vectors::read_line::<LINE>).take(1000000) {
         s = turn(line[0], number(&line), s);
     }
 }

@@ -1,5 +1,4 @@
 pub mod Examples
-pub mod Gap
 pub mod Sorting
 pub mod Kept
 pub mod Neighbour

@@ -1,18 +1,18 @@
 -- From the axes that a build made to what it promises. Assumes nothing.
 use Prim.Native.Nat.{ℕ}
-use mathlib.Core.Path.{◌≡◌, sym, ◌∙◌, ap, subst}
+use mathlib.Core.Path.{◌≡◌, sym, ap}
 use mathlib.Core.List.{List}
-use lib.ListN.{length, take}
+use lib.ListN.{take}
 use lib.Ieee.{Float}
 use Rattle.limits.specs.Checks.{none}
-use Rattle.chart.specs.Quotes.{Quote, Columns, quotes}
+use Rattle.chart.specs.Quotes.{Columns, quotes}
 use Rattle.chart.specs.Axis.{axis}
-use Rattle.chart.specs.Cells.{Axes, axes, count, cell}
-use Rattle.chart.specs.Steps.{axes_of, Pos, OnAxes, CellsWritten, Accepted}
-use Rattle.chart.specs.Build.{Buffers, buffers_of, front, table, surface_of, refusal}
+use Rattle.chart.specs.Cells.{axes}
+use Rattle.chart.specs.Steps.{Pos, Accepted}
+use Rattle.chart.specs.Build.{Buffers, refusal}
 use Rattle.chart.proofs.Kept.{strikes_of, expiries_of, length_quotes}
 use Rattle.chart.proofs.BuildChecks.{Sound, passed}
-use Rattle.chart.proofs.Housing.{strikes_pos, expiries_pos, all_placed}
+use Rattle.chart.proofs.Housing.{strikes_pos, expiries_pos}
 
 module _ {c : Columns} {kept : ℕ} (S : Sound c kept) where
   -- what the axes are made of is finite and above 0
@@ -48,21 +48,3 @@ accepted c kept s K E h k e =
       strikes = k;
       expiries = e;
     }
-
-module _ {qs : List Quote} {s : Buffers} {K E : List Float} (A : Accepted qs s K E) where
-  same_axes : axes_of K E ≡ axes qs
-  same_axes = λ i. axes_of (A.strikes i) (A.expiries i)
-
-  pub made_placed : OnAxes (axes_of K E) qs
-  made_placed = subst (λ (x : Axes). OnAxes x qs) (sym same_axes) (all_placed qs A.ranged)
-
-  pub made_written : (ka ta g : List Float) (n : List ℕ) → ka ≡ front K s.strikes → ta ≡ front E s.expiries
-      → CellsWritten (axes_of K E) qs s.grid s.counts g n → buffers_of ka ta g n ≡ surface_of qs s
-  made_written ka ta g n a b w =
-      (λ i. buffers_of (a i) (b i) (w.cells i) (w.counted i)) ∙ (λ i. laid (same_axes i))
-    where
-      laid : Axes → Buffers
-      laid x =
-          buffers_of (front x.strikes s.strikes) (front x.expiries s.expiries)
-          (table (length x.expiries) (length x.strikes) (cell x qs) s.grid)
-          (table (length x.expiries) (length x.strikes) (λ i j. count x i j qs) s.counts)

@@ -5,12 +5,13 @@
 // each text is written, once and to standard output, that a failed write ends the program, and that the loop is not left early.
 #![tactic(auto)]
 
-ghost use Rattle.std.specs.Prelude.{◌*◌, ◌≤◌, ◌≡◌, [], ◌∷◌, length, take};
+ghost use Rattle.std.specs.Prelude.{◌≤◌, ◌≡◌, [], ◌∷◌, length, take};
 ghost use Rattle.std.specs.Io.{ReadsAtMost};
-ghost use Rattle.book.specs.Lent.{columns_held, SameColumns};
+ghost use Rattle.book.specs.Lent.{SameColumns};
 ghost use Rattle.protocol.specs.Calls.{fresh};
-ghost use Rattle.protocol.specs.Turns.{count_of, HadRoom, holds};
+ghost use Rattle.protocol.specs.Turns.{count_of, HadRoom};
 ghost use Rattle.desk.specs.Served.{parts_of, state_in, goes_on, Heard, Served};
+ghost use Rattle.desk.specs.Held.{held};
 
 use book::QuoteColumns;
 use protocol::{Short, State};
@@ -21,113 +22,118 @@ const STDOUT_FILENO: i32 = 1;
 
 const STDERR_FILENO: i32 = 2;
 
+// What a read gives at most.
+const READ: usize = 4096;
+
+// Room for the answers to a read: 19 bytes for each of its bytes are never too few (`roomy` in protocol/specs/Claims).
+const ROOM: usize = 19 * READ;
+
 // What a turn leads to: the state that is held, and whether to read on.
 type Going = ControlFlow<State, State>;
 
-// All that is written: the front of the buffer, as far as the answers go.
-fn put_out(text: &[u8], count: usize, out: &[u8]) -> bool
-    requires { text.now ≡ take count out.now }
+// What each turn works in: the columns of the book, and the buffer that its text is written to.
+#[derive(Drop)]
+struct Memory<'a> {
+    columns: QuoteColumns<'a>,
+    out: [u8; ROOM],
+}
+
+impl Memory<'_> {
+    // The text of a turn: the front of the buffer, as far as the answers go.
+    fn text(&self, written: Result<usize, Short>) -> &[u8]
+        requires in_bounds { count_of written ≤ ROOM }
+        requires had_room { HadRoom written }
+        ensures { result.now ≡ take (count_of written) self.now.out }
+    {
+        &self.out[..written.unwrap()]
+    }
+
+    // The text of a turn is written, and a failure is told.
+    fn write(&self, written: Result<usize, Short>) -> bool
+        requires in_bounds { count_of written ≤ ROOM }
+        requires had_room { HadRoom written }
+    {
+        let done = put_out(self.text(written), written, &self.out);
+        if !done {
+            io::write_all(STDERR_FILENO, b"desk: cannot write\n");
+        }
+        done
+    }
+
+    // A turn on a part of the input, whose text is written.
+    fn hear(&mut self, state: State, part: &[u8]) -> Going
+        requires { length part.now ≤ READ }
+        ensures same_memory { SameColumns self.new.columns self.old.columns }
+        ensures heard { Heard (length part.now)
+            (held state self.old)
+            (part.now ∷ [])
+            (held (state_in result) self.new) (goes_on result) }
+    {
+        match lines::turn(state, part, &mut self.columns, &mut self.out) {
+            ControlFlow::Continue(fed) => {
+                if !self.write(fed.text) {
+                    return ControlFlow::Break(fed.state);
+                }
+                ControlFlow::Continue(fed.state)
+            }
+            ControlFlow::Break(last) => {
+                self.write(last.text);
+                ControlFlow::Break(last.state)
+            }
+        }
+    }
+
+    // What a read gave is heard; where it failed, nothing is.
+    fn answer(&mut self, got: std::io::Result<usize>, input: &[u8; READ], state: State) -> Going
+        requires { ReadsAtMost got input.now }
+        ensures same_memory { SameColumns self.new.columns self.old.columns }
+        ensures heard { Heard READ
+            (held state self.old)
+            (parts_of got input.now)
+            (held (state_in result) self.new) (goes_on result) }
+    {
+        match got {
+            Ok(count) => self.hear(state, &input[..count]),
+            Err(_) => {
+                io::write_all(STDERR_FILENO, b"desk: cannot read\n");
+                ControlFlow::Break(state)
+            }
+        }
+    }
+
+    // Nothing says that an input ends, so the loop has an end that no run comes to.
+    fn serve(&mut self, mut stdin: Stdin) -> Going
+        ensures same_memory { SameColumns self.new.columns self.old.columns }
+        ensures served { Served READ (held fresh self.old) (held (state_in result) self.new) (goes_on result) }
+    {
+        let mut input = [0u8; READ];
+        let mut state = lines::start();
+        for _ in 0..u64::MAX {
+            let got = stdin.read(&mut input);
+            state = self.answer(got, &input, state)?;
+        }
+        ControlFlow::Continue(state)
+    }
+}
+
+// All that is written: the front of the buffer, as far as the answers go. The count and the buffer stand beside it for the clause, which holds it to that.
+fn put_out(text: &[u8], written: Result<usize, Short>, out: &[u8; ROOM]) -> bool
+    requires { text.now ≡ take (count_of written) out.now }
 {
     io::write_all(STDOUT_FILENO, text)
 }
 
-// A buffer of 19 bytes for each byte of a read is never too short for the answers (`roomy` in protocol/specs/Claims).
-fn write_text(text: Result<usize, Short>, out: &[u8]) -> bool
-    requires text_in_bounds { count_of text ≤ length out.now }
-    requires had_room { HadRoom text }
-{
-    let written = match text {
-        Ok(count) => put_out(&out[..count], count, out),
-        Err(_) => false,
-    };
-    if !written {
-        io::write_all(STDERR_FILENO, b"desk: cannot write\n");
-    }
-    written
-}
-
-// A turn on a part of the input, whose text is written.
-fn hear(state: State, part: &[u8], columns: &mut QuoteColumns<'_>, out: &mut [u8]) -> Going
-    requires part_in_bounds { 19 * length part.now ≤ length out.old }
-    requires in_bounds { 19 ≤ length out.old }
-    ensures same_memory { SameColumns columns.new columns.old }
-    ensures heard { Heard (length part.now)
-        (holds state (columns_held columns.old) out.old)
-        (part.now ∷ [])
-        (holds (state_in result) (columns_held columns.new) out.new) (goes_on result) }
-{
-    match lines::turn(state, part, columns, out) {
-        ControlFlow::Continue(fed) => {
-            if !write_text(fed.text, out) {
-                return ControlFlow::Break(fed.state);
-            }
-            ControlFlow::Continue(fed.state)
-        }
-        ControlFlow::Break(last) => {
-            write_text(last.text, out);
-            ControlFlow::Break(last.state)
-        }
-    }
-}
-
-// What a read gave is heard; where it failed, nothing is.
-fn answer(
-    got: std::io::Result<usize>,
-    input: &[u8],
-    state: State,
-    columns: &mut QuoteColumns<'_>,
-    out: &mut [u8],
-) -> Going
-    requires within { ReadsAtMost got input.now }
-    requires input_in_bounds { 19 * length input.now ≤ length out.old }
-    requires in_bounds { 19 ≤ length out.old }
-    ensures same_memory { SameColumns columns.new columns.old }
-    ensures heard { Heard (length input.now)
-        (holds state (columns_held columns.old) out.old)
-        (parts_of got input.now)
-        (holds (state_in result) (columns_held columns.new) out.new) (goes_on result) }
-{
-    match got {
-        Ok(count) => hear(state, &input[..count], columns, out),
-        Err(_) => {
-            io::write_all(STDERR_FILENO, b"desk: cannot read\n");
-            ControlFlow::Break(state)
-        }
-    }
-}
-
-// Nothing says that an input ends, so the loop has an end that no run comes to.
-fn serve(
-    mut stdin: Stdin,
-    input: &mut [u8],
-    columns: &mut QuoteColumns<'_>,
-    out: &mut [u8],
-) -> Going
-    requires input_in_bounds { 19 * length input.old ≤ length out.old }
-    requires in_bounds { 19 ≤ length out.old }
-    ensures same_memory { SameColumns columns.new columns.old }
-    ensures served { Served (length input.old)
-        (holds fresh (columns_held columns.old) out.old)
-        (holds (state_in result) (columns_held columns.new) out.new) (goes_on result) }
-{
-    let mut state = lines::start();
-    for _ in 0..u64::MAX {
-        let got = stdin.read(input);
-        state = answer(got, input, state, columns, out)?;
-    }
-    ControlFlow::Continue(state)
-}
-
 fn main(rt: HostRuntime) {
-    let mut input = [0u8; 4096];
     let mut strikes = [0.0f64; 1024];
     let mut expiries = [0.0f64; 1024];
     let mut volatilities = [0.0f64; 1024];
-    let mut out = [0u8; 77824];
-    let mut columns = QuoteColumns {
-        strikes: &mut strikes,
-        expiries: &mut expiries,
-        volatilities: &mut volatilities,
+    let mut memory = Memory {
+        columns: QuoteColumns {
+            strikes: &mut strikes,
+            expiries: &mut expiries,
+            volatilities: &mut volatilities,
+        },
+        out: [0u8; ROOM],
     };
-    serve(rt.stdin(), &mut input, &mut columns, &mut out);
+    memory.serve(rt.stdin());
 }

@@ -1,5 +1,5 @@
 // exp and ln on f64, each equal to its definition of crate `elementary` for every input.
-#![tactic(auto)]
+#![tactic(auto, using(floats::proofs::Exceptions::exceptional), unfolding(crate::proofs::Definitions::opened))]
 
 ghost use Rattle.std.specs.Prelude.{◌≡◌, ◌-◌, ◌<◌, T, false, length, is_nan};
 ghost use Rattle.std.specs.Int.Signed.{mag};
@@ -51,8 +51,8 @@ const L: [f64; 11] = [
     0.047619047619047616,
 ];
 
-// Table E: its rule holds over the whole array. Each table has a rule of its own: one function for both would need a trait to name the rule, which is
-// longer than the two.
+// Table E, and the promise that its rule holds over the whole array, which document 01 asks for by itself. Table L has another rule and another length: one
+// function for both would have to be handed what it promises.
 fn table_e() -> [f64; 14]
     ensures { Ruled factorial last_e result }
 {
@@ -79,7 +79,8 @@ fn horner(table: &[f64], x: f64) -> f64
     p
 }
 
-// The largest whole number not above t. `f64::floor` would round by bits, and its f64 be cut after it: this is one cut and one test.
+// The largest whole number not above t, by a cut and a test. A cut of `t.floor()` was tried, and proved: the eight trays of docs/PERFORMANCE.md got
+// slower by 4.7 to 5.3 %, and none may by more than 5 %.
 fn floor(t: f64) -> i64
     requires { Small t }
     ensures { result ≡ floor t }

@@ -1,7 +1,7 @@
 // The gap filler of a lent grid of up to 32 rows (expiries) and 64 columns (strikes). Of src/options/surface.rs.
 #![tactic(auto)]
 
-ghost use Rattle.std.specs.Prelude.{◌≡◌, ◌≤◌, ◌<◌, length};
+ghost use Rattle.std.specs.Prelude.{◌≡◌, ◌<◌, ◌≤◌, length};
 ghost use Rattle.std.specs.Float.{nan};
 ghost use Rattle.gaps.specs.Gaps.{filled, forward, backward, swept, rows_swept, column, put_column, columns_swept, fill_outcome, FillsGaps};
 
@@ -14,6 +14,7 @@ fn filled(last: f64, v: f64) -> f64
     if v.is_nan() { last } else { v }
 }
 
+// From the left: each gap takes the last value passed.
 fn forward_pass(row: &mut [f64])
     ensures { row.new ≡ forward nan row.old }
 {
@@ -24,8 +25,8 @@ fn forward_pass(row: &mut [f64])
     }
 }
 
-// `iter_mut().rev()`, and with it one function for both passes, would leave the proof without what the cells become: of such an iterator it knows lengths
-// alone.
+// From the right, by an index. Two other forms were tried. Of a loop over `row.iter_mut().rev()` the proof knows what it yielded, not what the cells become:
+// that proof did not close. The forward pass over the row turned round proved, but a grid of 2,048 took 9.3 µs, by an index 7.1: over the 5 % more allowed.
 fn backward_pass(row: &mut [f64])
     ensures { row.new ≡ backward row.old }
 {
@@ -44,55 +45,61 @@ fn sweep(row: &mut [f64])
     backward_pass(row);
 }
 
-// Each row is lent as a part that starts in the grid's middle.
-#[tactic(auto, using(gaps::proofs::Passes::rows_step), unfolding(gaps::specs::Gaps::rows_swept))]
-fn sweep_rows(grid: &mut [f64], strikes: usize, expiries: usize)
-    requires { (2048 ≤ length grid.old) × (strikes ≤ 64) × (expiries ≤ 32) }
-    ensures { grid.new ≡ rows_swept expiries strikes grid.old }
-{
-    for i in 0..expiries {
-        let start = 64 * i;
-        sweep(&mut grid[start..start + strikes]);
+// A lent grid and the part of it in use, within document 01's bounds: `fill_gaps` checks them, and no sweep asks again.
+#[derive(Drop)]
+struct Lent<'a> {
+    grid: &'a mut [f64],
+    strikes: usize,
+    expiries: usize,
+    ghost narrow: { strikes ≤ 64 },
+    ghost low: { expiries ≤ 32 },
+    ghost long: { 2048 ≤ length grid.now },
+}
+
+impl Lent<'_> {
+    ghost use Rattle.filler.specs.Lent.{Leaves};
+
+    // Each row is lent as a part that starts in the grid's middle.
+    #[tactic(auto, using(gaps::proofs::Passes::rows_step), unfolding(gaps::specs::Gaps::rows_swept))]
+    fn sweep_rows(&mut self)
+        ensures { Leaves self.old self.new (rows_swept self.old.expiries self.old.strikes self.old.grid.now) }
+    {
+        for i in 0..self.expiries {
+            let start = 64 * i;
+            sweep(&mut self.grid[start..start + self.strikes]);
+        }
     }
-}
 
-fn gather(cells: &mut [f64], grid: &[f64], j: usize)
-    requires { (length cells.old ≤ 32) × (j < 64) × (2048 ≤ length grid.now) }
-    ensures { cells.new ≡ column j (length cells.old) grid.now }
-{
-    for (i, cell) in cells.iter_mut().enumerate() {
-        *cell = grid[64 * i + j];
+    fn gather(&self, cells: &mut [f64], j: usize)
+        requires { (j < self.now.strikes) × (length cells.old ≡ self.now.expiries) }
+        ensures { cells.new ≡ column j self.now.expiries self.now.grid.now }
+    {
+        for (i, cell) in cells.iter_mut().enumerate() {
+            *cell = self.grid[64 * i + j];
+        }
     }
-}
 
-fn scatter(grid: &mut [f64], cells: &[f64], j: usize)
-    requires { (length cells.now ≤ 32) × (j < 64) × (2048 ≤ length grid.old) }
-    ensures { grid.new ≡ put_column j 0 cells.now grid.old }
-{
-    for (i, cell) in cells.iter().enumerate() {
-        grid[64 * i + j] = *cell;
+    // A column is swept in an array, where its cells stand side by side.
+    fn sweep_column(&mut self, j: usize)
+        requires { j < self.old.strikes }
+        ensures { Leaves self.old self.new (put_column j 0 (swept (column j self.old.expiries self.old.grid.now)) self.old.grid.now) }
+    {
+        let mut column = [0.0f64; 32];
+        let cells = &mut column[..self.expiries];
+        self.gather(cells, j);
+        sweep(cells);
+        for (i, cell) in cells.iter().enumerate() {
+            self.grid[64 * i + j] = *cell;
+        }
     }
-}
 
-// A column is swept in an array, where its cells stand side by side.
-fn sweep_column(grid: &mut [f64], expiries: usize, j: usize)
-    requires { (2048 ≤ length grid.old) × (expiries ≤ 32) × (j < 64) }
-    ensures { grid.new ≡ put_column j 0 (swept (column j expiries grid.old)) grid.old }
-{
-    let mut column = [0.0f64; 32];
-    let cells = &mut column[..expiries];
-    gather(cells, grid, j);
-    sweep(cells);
-    scatter(grid, cells, j);
-}
-
-#[tactic(auto, using(gaps::proofs::Columns::columns_step), unfolding(gaps::specs::Gaps::columns_swept))]
-fn sweep_columns(grid: &mut [f64], strikes: usize, expiries: usize)
-    requires { (2048 ≤ length grid.old) × (strikes ≤ 64) × (expiries ≤ 32) }
-    ensures { grid.new ≡ columns_swept strikes expiries grid.old }
-{
-    for j in 0..strikes {
-        sweep_column(grid, expiries, j);
+    #[tactic(auto, using(gaps::proofs::Columns::columns_step), unfolding(gaps::specs::Gaps::columns_swept))]
+    fn sweep_columns(&mut self)
+        ensures { Leaves self.old self.new (columns_swept self.old.strikes self.old.expiries self.old.grid.now) }
+    {
+        for j in 0..self.strikes {
+            self.sweep_column(j);
+        }
     }
 }
 
@@ -103,7 +110,12 @@ pub fn fill_gaps(grid: &mut [f64], strikes: usize, expiries: usize) -> Result<()
 {
     check(strikes <= 64 && expiries <= 32, Refusal::OutOfBounds)?;
     check(grid.len() >= 2048, Refusal::ShortBuffer)?;
-    sweep_rows(grid, strikes, expiries);
-    sweep_columns(grid, strikes, expiries);
+    let mut lent = Lent {
+        grid,
+        strikes,
+        expiries,
+    };
+    lent.sweep_rows();
+    lent.sweep_columns();
     Ok(())
 }

@@ -18,3 +18,4 @@ pub mod Digits
 pub mod Pattern
 pub mod Neighbours
 pub mod Same
+pub mod Exceptions

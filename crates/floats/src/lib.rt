@@ -64,7 +64,8 @@ fn leading_digits(v: f64) -> Parts
     }
 }
 
-// Those of any float: none where it is not above 0 or not finite.
+// Those of any float; zeros for one that is not above 0 or not finite. An `Option` is no plainer: both callers hold a float that has them, and would
+// have a None to answer that cannot come.
 pub fn taken_apart(v: f64) -> Parts
     ensures { result ≡ parts_of v }
 {

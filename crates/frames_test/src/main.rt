@@ -56,7 +56,7 @@ fn take_chunk(mut line: Line, chunk: &[u8]) -> Line {
 
 fn main() {
     let mut line = streams::no_line();
-    // Each loop ends: no input has this many chunks.
+    // The loop has an end that no input comes to.
     for _ in 0..u64::MAX {
         let mut input = [0; 7];
         let n = io::read_full(STDIN_FILENO, &mut input);

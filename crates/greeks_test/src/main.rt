@@ -13,20 +13,18 @@ const STDOUT_FILENO: i32 = 1;
 // The operation and the option's letter, a mark, five inputs, the number and the evaluations to expect, and two values.
 const LINE: usize = 135;
 
-// What a call answered. A refusal's value is 0.0.
+// What a call answered, and the evaluations that it made.
 #[derive(Clone, Copy)]
 struct Got {
-    number: u64,
+    answer: Result<f64, Refusal>,
     evaluations: u64,
-    value: f64,
 }
 
 impl From<Result<f64, Refusal>> for Got {
     fn from(answer: Result<f64, Refusal>) -> Got {
         Got {
-            number: outcomes::number_of(answer),
+            answer,
             evaluations: 0,
-            value: answer.unwrap_or(0.0),
         }
     }
 }
@@ -42,32 +40,24 @@ fn params(inputs: [u64; 5], letter: u8) -> OptionParams {
         time_to_expiry: frames::float_of(expiry),
         risk_free_rate: frames::float_of(rate),
         volatility: frames::float_of(volatility),
-        option_type: if letter == b'P' {
-            OptionType::Put
-        } else {
-            OptionType::Call
+        option_type: match letter {
+            b'P' => OptionType::Put,
+            _ => OptionType::Call,
         },
     }
 }
 
-fn price(params: OptionParams) -> Got {
-    Got::from(greeks::bsm_price(params))
-}
-
 // Call less put.
-fn parity(params: OptionParams) -> Got {
-    let call = price(OptionParams {
+fn parity(params: OptionParams) -> Result<f64, Refusal> {
+    let call = greeks::bsm_price(OptionParams {
         option_type: OptionType::Call,
         ..params
-    });
-    let put = price(OptionParams {
+    })?;
+    let put = greeks::bsm_price(OptionParams {
         option_type: OptionType::Put,
         ..params
-    });
-    Got {
-        value: call.value - put.value,
-        ..call
-    }
+    })?;
+    Ok(call - put)
 }
 
 fn greek<F: Fn(Greeks) -> f64>(params: OptionParams, chosen: F) -> Got
@@ -81,33 +71,31 @@ fn implied<F: Fn(Solution) -> f64>(params: OptionParams, chosen: F) -> Got
 {
     match greeks::implied_volatility(params.volatility, params) {
         Ok(solution) => Got {
-            number: 0,
+            answer: Ok(chosen(solution)),
             evaluations: solution.evaluations,
-            value: chosen(solution),
         },
         Err(unsolved) => Got {
-            number: u64::from(unsolved.refusal),
+            answer: Err(unsolved.refusal),
             evaluations: unsolved.evaluations,
-            value: 0.0,
         },
     }
 }
 
-// The call by the first and the third letter of the operation. sigma is the volatility, error its error; other is the opposing point, oerr its error.
-fn answer(letters: [u8; 2], params: OptionParams) -> Got {
-    match letters {
-        [b'p', b'r'] => parity(params),
-        [b'p', _] => price(params),
-        [b's', _] => implied(params, |s| s.volatility),
-        [b'e', _] => implied(params, |s| s.error),
-        [b'o', b'h'] => implied(params, |s| s.c),
-        [b'o', _] => implied(params, |s| s.c_error),
-        [b'd', _] => greek(params, |g| g.delta),
-        [b'g', _] => greek(params, |g| g.gamma),
-        [b't', _] => greek(params, |g| g.theta),
-        [b'r', _] => greek(params, |g| g.rho),
-        [_, b'g'] => greek(params, |g| g.vega),
-        [_, b'n'] => greek(params, |g| g.vanna),
+// The call of an operation. sigma is the volatility, error its error; other is the opposing point, oerr its error.
+fn answer(operation: &[u8], params: OptionParams) -> Got {
+    match operation {
+        b"parit" => Got::from(parity(params)),
+        b"price" => Got::from(greeks::bsm_price(params)),
+        b"sigma" => implied(params, |s| s.volatility),
+        b"error" => implied(params, |s| s.error),
+        b"other" => implied(params, |s| s.c),
+        b"oerr " => implied(params, |s| s.c_error),
+        b"delta" => greek(params, |g| g.delta),
+        b"gamma" => greek(params, |g| g.gamma),
+        b"theta" => greek(params, |g| g.theta),
+        b"rho  " => greek(params, |g| g.rho),
+        b"vega " => greek(params, |g| g.vega),
+        b"vanna" => greek(params, |g| g.vanna),
         _ => greek(params, |g| g.volga),
     }
 }
@@ -129,17 +117,20 @@ fn wanted(mark: u8, first: u64, second: u64) -> Wanted {
     }
 }
 
-// A count against its two decimal digits.
-fn counted(n: u64, tens: u8, units: u8) -> bool {
-    n / 10 == frames::digit_value(tens) && n % 10 == frames::digit_value(units)
+// A count against its decimal digits.
+fn counted(n: u64, digits: &[u8]) -> bool {
+    match str::from_utf8(digits) {
+        Ok(text) => text.parse() == Ok(n),
+        Err(_) => false,
+    }
 }
 
 fn agrees(line: &[u8; LINE], got: Got) -> bool {
     let mut words = Words { text: &line[101..] };
     let wanted = wanted(line[8], words.word(), words.word());
-    counted(got.number, line[95], line[96])
-        && counted(got.evaluations, line[98], line[99])
-        && wanted.is_met(got.value)
+    counted(outcomes::number_of(got.answer), &line[95..97])
+        && counted(got.evaluations, &line[98..100])
+        && wanted.is_met(outcomes::values_of(got.answer, 0.0))
 }
 
 // ---- what is written
@@ -159,15 +150,15 @@ fn judge(line: &[u8; LINE]) -> bool {
         words.word(),
         words.word(),
     ];
-    let got = answer([line[0], line[2]], params(inputs, line[6]));
+    let got = answer(&line[..5], params(inputs, line[6]));
     let agrees = agrees(line, got);
     io::write_all(STDOUT_FILENO, &line[..7]);
     for input in inputs {
         vectors::print_word(input);
     }
-    print_count(got.number);
+    print_count(outcomes::number_of(got.answer));
     print_count(got.evaluations);
-    vectors::print_word(frames::bits_of(got.value));
+    vectors::print_word(frames::bits_of(outcomes::values_of(got.answer, 0.0)));
     io::write_all(STDOUT_FILENO, b" ");
     io::write_all(STDOUT_FILENO, vectors::verdict(agrees));
     io::write_all(STDOUT_FILENO, b"\n");
@@ -176,7 +167,8 @@ fn judge(line: &[u8; LINE]) -> bool {
 
 // Runs the records of a kind and writes its name and their totals. Answers whether there was one.
 fn section() -> bool {
-    let mut tally = Tally::NONE;
+    let mut tally = Tally::default();
+    // The loop has an end that no input comes to. Its line is no `from_fn`'s, since the input's end is answered otherwise than a section's.
     for _ in 0..100000 {
         let Some(line) = vectors::read_line() else {
             return false;
@@ -196,6 +188,7 @@ fn section() -> bool {
 }
 
 fn main() {
+    // The loop has an end that no input comes to.
     for _ in 0..1000 {
         if !section() {
             return;

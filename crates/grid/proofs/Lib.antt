@@ -1,4 +1,3 @@
-pub mod Fronts
 pub mod First
 pub mod Values
 pub mod Rows

@@ -93,9 +93,6 @@ module _ (spot : Float) where
       pub first : i ≡ 0 → at ≡ 0
       pub leads : 0 < i → NearestOf spot strikes i at
 
-    pub leads_start : Leads 0 (get_or strikes 0 nan)
-    leads_start = record { at = 0; is = refl; first = λ e. refl; leads = λ h. absurd (omega arith) }
-
     pub leads_keep : (i : ℕ) (strike : Float) → away i ≺ away_from spot strike ≡ false → Leads i strike → Leads (i + 1) strike
     leads_keep i strike f l =
         record {

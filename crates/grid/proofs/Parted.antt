@@ -1,22 +1,21 @@
 -- Where a list parts by a test that holds of its values up to some place and of none behind it, as `partition_point` finds it. Assumes nothing.
 use Prim.Native.Nat.{ℕ, zero, suc, ◌+◌, ◌*◌, ◌≤◌}
 use mathlib.Core.Path.{◌≡◌, refl, ap}
-use mathlib.Core.Bool.{Bool, true, false, not}
+use mathlib.Core.Bool.{Bool, true, false}
 use mathlib.Core.List.{List, [], ◌∷◌}
 use native.Mathlib.Nat.{le_of_suc-le-suc}
 use native.Mathlib.Omega.{arith}
 use lib.Dec.{ltb, eqb}
 use lib.ListN.{length, get_or}
 use lib.Ieee.{Float, nan, inf, fin, up, down, below, level, lt, eq, le, is_nan}
-use borrow.Author.Tests.{ltb-true, ltb-false, le-ltb, eqb-true, not-true}
+use borrow.Author.Tests.{ltb-true, ltb-false, le-ltb, eqb-true}
 use Rattle.std.proofs.lemmas.List.{get_or_default}
 use Rattle.std.specs.List.Sorted.{IsPartitionedBy, IsPartitionPoint}
 use Rattle.floats.specs.Operators.{◌≺◌, ◌≼◌}
 use Rattle.floats.proofs.Tests.{split, clash, and_left, and_right}
 use Rattle.floats.proofs.Less.{lt_turns, lt_through, lt_le, above_some}
-use Rattle.grid.specs.Search.{first_where, Rising}
+use Rattle.grid.specs.Search.{first_where}
 use Rattle.grid.specs.Readings.{is_axis}
-use Rattle.grid.proofs.First.{first_upto, first_past}
 use Rattle.grid.proofs.Axes.{axis_rises}
 
 -- ---- a value below one that is at most x is at most x
@@ -71,17 +70,6 @@ axis_parted x axis a i j d h k t =
     let j' = get_or_default axis j d nan k in
     rw i' (lt_before_le (get_or axis i nan) (get_or axis j nan) x (axis_rises axis a i j l k) (rw j' at t)))
     (λ u. let e : i ≡ j = (let w = ltb-false i j u in omega arith) in rw e t)
-
--- ---- and those before the first that passes a test, where each behind it passes
-pub rising_parted : (p : Float → Bool) (xs : List Float) → Rising p xs → IsPartitionedBy (λ v. not (p v)) xs
-rising_parted p xs r i j d h k t =
-    split (p (get_or xs i d))
-    (λ u.
-    let f = not-true (p (get_or xs j d)) t in
-    let upto = first_upto p xs i d (omega arith) u in
-    let past = first_past p xs j d r k f in
-    absurd (omega arith))
-    (λ u. rw u)
 
 -- ---- the place found is that of the first value that passes
 module _ (p q : Float → Bool) (before : (v : Float) → q v ≡ true → p v ≡ false) (behind : (v : Float) → q v ≡ false → p v ≡ true) where

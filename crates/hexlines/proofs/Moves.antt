@@ -78,9 +78,6 @@ module _ {B : Type 0} (hear : B → Option Frame → Told B) where
     pub within : t.at ≤ length t.out
     pub bytes : length t.line.bytes ≡ cap
 
-  pub going_start : (p : Place B) (chunk : List ℕ) → p.at ≤ length p.out → length p.line.bytes ≡ cap → Going p chunk p 0 0
-  going_start p chunk h k = record { to_come = refl; left = omega arith; rest = refl; size = refl; counted = omega arith; within = h; bytes = k }
-
   abbrev pub with_line : Place B → Line → Place B
   with_line t l = record { book = t.book; line = l; at = t.at; out = t.out }
 

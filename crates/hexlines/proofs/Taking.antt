@@ -42,16 +42,6 @@ pub pushed_length : (l : Line) (c : ℕ) → length l.bytes ≡ cap → length (
 unfolding pushed
 pushed_length l c k = split (ltb l.seen cap) (λ t. rw t (simp length-set k)) (λ t. rw t k)
 
-pub line_in_length : (cs : List ℕ) (l : Line) → length l.bytes ≡ cap → length (line_in l cs).bytes ≡ cap
-unfolding line_in
-line_in_length [] l k = k
-line_in_length (c ∷ cs) l k = split (eqb c 10) (λ t. rw t k) (λ t. rw t (line_in_length cs (pushed l c) (pushed_length l c k)))
-
-pub through_within : (cs : List ℕ) → through cs ≤ length cs
-unfolding through
-through_within [] = omega arith
-through_within (c ∷ cs) = split (eqb c 10) (λ t. rw t (omega arith)) (λ t. rw t (omega (arith, through_within cs)))
-
 pub few_feeds : (cs : List ℕ) → feeds cs ≤ length cs
 unfolding feeds feed_in
 few_feeds [] = omega arith

@@ -31,7 +31,8 @@ pub enum Frame {
 }
 
 // The part of a line that came so far: its first 51 bytes, and how many they are. A line that fills them is too long for a frame.
-// A buffer with its length beside it, as nothing is on the heap. No invariant ties the two: the calls answer whatever they are.
+// A buffer with its length beside it, in fixed memory: callers hand both in and are answered whatever the two are, where a vector of fixed capacity would ask
+// that they agree.
 #[derive(Clone, Copy)]
 pub struct Line {
     pub bytes: [u8; 51],

@@ -26,12 +26,14 @@ use Rattle.ledger.specs.declared.Book.{Book}
 use Rattle.ledger.specs.Book.{columns_of, opening_of, zero_book, open_refusal, is_short}
 use Rattle.ledger.specs.Build.{build_outcome}
 use Rattle.ledger.specs.Claim.{tallied, surface_refusal}
-use Rattle.trays.specs.Tray.{Answers, Lent, lent, shut, heard, reply_of, last_ledger, tray_reply, QuotesTray}
+use Rattle.trays.specs.Tray.{Lent, lent, answers, shut, heard, reply_of, last_ledger, tray_reply, QuotesTray}
 use Rattle.trays.specs.declared.Tray.{Tray}
 use Rattle.admission.specs.declared.SurfaceBuffers.{SurfaceBuffers}
 use Rattle.admission.specs.Lent.{buffers_in}
 use Rattle.book.specs.declared.QuoteColumns.{QuoteColumns}
 use Rattle.book.specs.Lent.{columns_held}
+use Rattle.batch.specs.declared.Answers as batch
+use Rattle.batch.specs.Lent.{answers_in}
 use Rattle.host.specs.Calls.{built_in, lengths_of, BuildsFor, is_opening, book_in, tray_in, book_of, totals_of, built_of, QuotesFor}
 
 -- ---- a build
@@ -41,6 +43,10 @@ built_back (Ok n) = refl
 built_back (Err refusal) = simp (ne_eqb (number refusal) none (some refusal))
 
 -- ---- what a host reads of the memory that it lent, once the struct of it is given back
+pub record AnswersBack (a : batch.Answers) (u : List (List ℕ)) (v : List (List Float)) : Type 0 where
+  pub numbers : u ≡ a.numbers.now
+  pub evidence : v ≡ a.evidence.now
+
 pub record ColumnsBack (c : QuoteColumns) (k t v : List Float) : Type 0 where
   pub strikes : k ≡ c.strikes.now
   pub expiries : t ≡ c.expiries.now
@@ -130,17 +136,21 @@ module _ (opening : Opening) (os : List Offer) (l : Lent) where
             lengths_written = simp (u, built_back tray.built);
           }
 
-  module _ (a : Answers) (c : QuoteColumns) (b : SurfaceBuffers) (strikes expiries volatilities k t g : List Float) (n : List ℕ)
-      (e : ColumnsBack c strikes expiries volatilities) (f : BuffersBack b k t g n) where
-    lent_back : lent a (columns_of strikes expiries volatilities) (buffers_of k t g n) ≡ lent a (columns_held c) (buffers_in b)
-    lent_back = rw (e.strikes, e.expiries, e.volatilities, f.strike_axis, f.expiry_axis, f.grid, f.counts)
+  module _ (a : batch.Answers) (c : QuoteColumns) (b : SurfaceBuffers) (numbers : List (List ℕ)) (evidence : List (List Float))
+      (strikes expiries volatilities k t g : List Float) (n : List ℕ) (d : AnswersBack a numbers evidence) (e : ColumnsBack c strikes expiries volatilities)
+      (f : BuffersBack b k t g n) where
+    abbrev back : Lent
+    back = lent (answers numbers evidence) (columns_of strikes expiries volatilities) (buffers_of k t g n)
+
+    lent_back : back ≡ lent (answers_in a) (columns_held c) (buffers_in b)
+    lent_back = rw (d.numbers, d.evidence, e.strikes, e.expiries, e.volatilities, f.strike_axis, f.expiry_axis, f.grid, f.counts)
 
     pub shut_tray : (x : Unopened) (told : ℕ) → told ≡ number x.refusal
-        → QuotesTray opening os l (reply_of (Err x)) (lent a (columns_held c) (buffers_in b))
-        → QuotesFor opening os l told (0 ∷ 0 ∷ 0 ∷ 0 ∷ []) (0 ∷ 0 ∷ []) (lent a (columns_of strikes expiries volatilities) (buffers_of k t g n))
+        → QuotesTray opening os l (reply_of (Err x)) (lent (answers_in a) (columns_held c) (buffers_in b))
+        → QuotesFor opening os l told (0 ∷ 0 ∷ 0 ∷ 0 ∷ []) (0 ∷ 0 ∷ []) back
     shut_tray x told p h = rw (p, lent_back) (shut_for x _ h)
 
     pub quoted_tray : (tray : Tray) (told : ℕ) (w : List ℕ) → told ≡ number_in tray.built → w ≡ lengths_of (outcome tray.built)
-        → QuotesTray opening os l (reply_of (Ok tray)) (lent a (columns_held c) (buffers_in b))
-        → QuotesFor opening os l told (totals_of tray.book) w (lent a (columns_of strikes expiries volatilities) (buffers_of k t g n))
+        → QuotesTray opening os l (reply_of (Ok tray)) (lent (answers_in a) (columns_held c) (buffers_in b))
+        → QuotesFor opening os l told (totals_of tray.book) w back
     quoted_tray tray told w p q h = rw (p, q, lent_back) (quoted_for tray _ h)

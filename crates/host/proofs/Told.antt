@@ -20,11 +20,12 @@ module _ {T : Type 0} (zeros : T) where
   told_answer (Ok x) = refl
   told_answer (Err refusal) = simp (ne_eqb (number refusal) none (some refusal))
 
-  pub told_over : {Y : Type 0} (f : T → Y) (answer : Result T Refusal)
-      → told (number_in answer) (f (values_of (outcome_with zeros answer))) ≡ over f (outcome_with zeros answer)
+  -- `made` is what the code has for the zeros
+  pub told_over : {Y : Type 0} (f : T → Y) (answer : Result T Refusal) (made : T) → made ≡ zeros
+      → told (number_in answer) (f (values_of (outcome_with made answer))) ≡ over f (outcome_with zeros answer)
   unfolding told over
-  told_over f (Ok x) = refl
-  told_over f (Err refusal) = simp (ne_eqb (number refusal) none (some refusal))
+  told_over f (Ok x) made e = refl
+  told_over f (Err refusal) made e = rw e (simp (ne_eqb (number refusal) none (some refusal)))
 
 -- a solver's number stands in one row with its evaluations
 pub told_solved : (answer : Result Solution Unsolved)

@@ -1,6 +1,6 @@
 // The library for hosts: the calls of the crates below under C names, on numbers and lent memory. A call returns 0, or document 01's number.
 // A slice is passed as a pointer and then its length; a `&mut` to a number or to an array, as a pointer. The C interface needs what goes together elsewhere,
-// an option, an opening, columns and buffers, as parameters of their own; an answer's number and its values likewise.
+// an option, an opening, offers and their answers, columns and buffers, as parameters of their own; an answer's number and its values likewise.
 #![tactic(auto)]
 
 ghost use Rattle.std.specs.Prelude.{◌≡◌};
@@ -10,12 +10,11 @@ ghost use Rattle.elementary.specs.Exp.{exp};
 ghost use Rattle.elementary.specs.Ln.{ln};
 ghost use Rattle.gauss.specs.Erfc.{erfc};
 ghost use Rattle.gauss.specs.Normal.{pdf, cdf};
-ghost use Rattle.limits.specs.Outcome.{values_of};
 ghost use Rattle.limits.specs.Refusals.{outcome_with};
-ghost use Rattle.blackscholes.specs.Checks.{pricing, outcome_of_greeks, sensitivities};
+ghost use Rattle.blackscholes.specs.Checks.{pricing, sensitivities};
 ghost use Rattle.blackscholes.specs.Implied.{implied};
 ghost use Rattle.grid.specs.Readings.{reading, middle_strike};
-ghost use Rattle.ledger.specs.Money.{at_the_money, money_outcome};
+ghost use Rattle.ledger.specs.Money.{at_the_money};
 ghost use Rattle.gaps.specs.Gaps.{FillsGaps};
 ghost use Rattle.ledger.specs.Book.{columns_of, end_of};
 ghost use Rattle.ledger.specs.Build.{buffers_of};
@@ -25,6 +24,7 @@ ghost use Rattle.chart.specs.Build.{outcome};
 ghost use Rattle.host.specs.Calls.{book_in, lengths_of, BuildsFor, QuotesFor};
 
 use admission::{Quotes, SurfaceBuffers};
+use batch::{Answers, Offers};
 use blackscholes::Greeks;
 use book::QuoteColumns;
 use chart::Lengths;
@@ -105,16 +105,6 @@ pub extern "C" fn kite_bsm_price(
     tell(greeks::bsm_price(option), price)
 }
 
-#[tactic(auto, unfolding(limits::proofs::Float::of_bits, limits::proofs::Float::round))]
-fn greeks_of(answer: Result<Greeks, Refusal>) -> [f64; 7]
-    ensures { result ≡ greeks_entries (values_of (outcome_of_greeks answer)) }
-{
-    match answer {
-        Ok(g) => [g.delta, g.gamma, g.theta, g.vega, g.rho, g.vanna, g.volga],
-        Err(_) => [0.0; 7],
-    }
-}
-
 // Checks 6 to 10. Writes delta, gamma, theta, vega, rho, vanna, volga.
 #[unsafe(no_mangle)]
 pub extern "C" fn kite_bsm_greeks(
@@ -129,7 +119,8 @@ pub extern "C" fn kite_bsm_greeks(
     ensures { told result greeks.new ≡ over greeks_entries (sensitivities (option_of put spot strike expiry rate volatility)) }
 {
     let answer = greeks::bsm_greeks(rows::option_of(put, spot, strike, expiry, rate, volatility));
-    *greeks = greeks_of(answer);
+    let g = outcomes::values_of(answer, Greeks::default());
+    *greeks = [g.delta, g.gamma, g.theta, g.vega, g.rho, g.vanna, g.volga];
     outcomes::number_of(answer)
 }
 
@@ -219,16 +210,6 @@ pub extern "C" fn kite_middle_strike(
     tell(surface.middle_strike(expiry), volatility)
 }
 
-#[tactic(auto, unfolding(limits::proofs::Float::of_bits, limits::proofs::Float::round))]
-fn money_of(answer: Result<Money, Refusal>) -> [f64; 2]
-    ensures { result ≡ money_entries (values_of (money_outcome answer)) }
-{
-    match answer {
-        Ok(money) => [money.strike, money.volatility],
-        Err(_) => [0.0; 2],
-    }
-}
-
 // 2 of the record, then 2, 15, 18 and 20: at the strike nearest the record's spot. Writes the strike and the volatility.
 #[unsafe(no_mangle)]
 pub extern "C" fn kite_at_the_money(
@@ -256,7 +237,8 @@ pub extern "C" fn kite_at_the_money(
     };
     let book = rows::book_of(Opening { spot, rate }, *totals);
     let answer = money::at_the_money(book, &surface, expiry);
-    *values = money_of(answer);
+    let money = outcomes::values_of(answer, Money::default());
+    *values = [money.strike, money.volatility];
     outcomes::number_of(answer)
 }
 
@@ -264,10 +246,8 @@ pub extern "C" fn kite_at_the_money(
 fn lengths_of(built: Result<Lengths, Refusal>) -> [u64; 2]
     ensures { result ≡ lengths_of (outcome built) }
 {
-    match built {
-        Ok(lengths) => [lengths.strikes as u64, lengths.expiries as u64],
-        Err(_) => [0; 2],
-    }
+    let lengths = outcomes::values_of(built, Lengths::default());
+    [lengths.strikes as u64, lengths.expiries as u64]
 }
 
 // Checks 1, 2, 15, 16 and 17. Writes the surface, and both axis lengths.
@@ -338,6 +318,8 @@ pub extern "C" fn kite_quote_tray(
         (columns_of strikes.new expiries.new volatilities.new)
         (buffers_of strike_axis.new expiry_axis.new grid.new counts.new)) }
 {
+    let offers = Offers { kinds, figures };
+    let mut answers = Answers { numbers, evidence };
     let mut columns = QuoteColumns {
         strikes,
         expiries,
@@ -350,15 +332,7 @@ pub extern "C" fn kite_quote_tray(
         counts,
     };
     let opening = Opening { spot, rate };
-    let tray = batch::quote_tray(
-        opening,
-        kinds,
-        figures,
-        numbers,
-        evidence,
-        &mut columns,
-        &mut buffers,
-    );
+    let tray = batch::quote_tray(opening, &offers, &mut answers, &mut columns, &mut buffers);
     match tray {
         Ok(tray) => {
             let book = tray.book;

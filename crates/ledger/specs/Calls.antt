@@ -31,6 +31,11 @@ abbrev pub Ended : Outcome Solution → Type 0
 Ended (done x) = x.evaluations ≤ most_evaluations
 Ended (refused number x) = (3 < number) × (x.evaluations ≤ most_evaluations)
 
+-- It refused.
+abbrev pub Turned : Outcome Solution → Type 0
+Turned (done x) = ⊥
+Turned (refused number x) = (3 < number) × (x.evaluations ≤ most_evaluations)
+
 -- A record that has room for one offer more, and for the evaluations made.
 pub record Counts (b : Book) (made : ℕ) : Type 0 where
   pub hears : b.heard < 60000

@@ -1,5 +1,5 @@
 -- Offers, answers and figures as rows of numbers, for calls on lent memory: which entry is which stands here alone, and `Rows` says it of every row.
-use Rattle.std.specs.Prelude.{ℕ, min, ◌≡◌, Bool, true, false, List, [], ◌∷◌, eqb, get_or, Float, if◌then◌else◌}
+use Rattle.std.specs.Prelude.{ℕ, min, ◌≡◌, Bool, true, false, List, [], ◌∷◌, eqb, get_or, Float, Err, if◌then◌else◌}
 use Rattle.std.specs.Float.{nan}
 use Rattle.floats.specs.Operators.{decimal}
 use Rattle.limits.specs.Checks.{none}
@@ -11,7 +11,8 @@ use Rattle.blackscholes.specs.declared.OptionType.TheVariants.{Call, Put}
 use Rattle.blackscholes.specs.declared.OptionParams.{OptionParams}
 use Rattle.blackscholes.specs.declared.Greeks.{Greeks}
 use Rattle.blackscholes.specs.Model.{price}
-use Rattle.chart.specs.Build.{no_lengths}
+use Rattle.limits.specs.declared.Refusal.{Refusal}
+use Rattle.chart.specs.Build.{no_lengths, outcome}
 use Rattle.chart.specs.declared.Lengths.{Lengths}
 use Rattle.ledger.specs.Model.{bsm, volatility, priced}
 use Rattle.ledger.specs.declared.Opening.{Opening}
@@ -115,7 +116,7 @@ pub record Rows : Type 0 where
   pub money : (strike volatility : Float) → money_entries (record { strike = strike; volatility = volatility }) ≡ strike ∷ volatility ∷ []
   -- strikes, then expiries
   pub lengths : (strikes expiries : ℕ) → lengths_of (done (record { strikes = strikes; expiries = expiries })) ≡ strikes ∷ expiries ∷ []
-  pub no_lengths : (number : ℕ) → lengths_of (refused number (record { strikes = 0; expiries = 0 })) ≡ 0 ∷ 0 ∷ []
+  pub no_lengths : (why : Refusal) → lengths_of (outcome (Err why)) ≡ 0 ∷ 0 ∷ []
   pub built : (strikes expiries : ℕ) → built_in 0 (strikes ∷ expiries ∷ []) ≡ done (record { strikes = strikes; expiries = expiries })
   pub not_built : (number : ℕ) (lengths : List ℕ) → (number ≡ 0 → ⊥) → built_in number lengths ≡ refused number (record { strikes = 0; expiries = 0 })
   -- kept, refused, heard, evaluations

@@ -1,12 +1,12 @@
 -- What the answer to a chain of checks tells: its number is the chain's, and its values are those of the side it is on. Assumes nothing.
 use Prim.Native.Nat.{ℕ}
-use mathlib.Core.Path.{◌≡◌, refl, sym, ap, ◌∙◌}
-use mathlib.Core.Bool.{true, false, true≢false}
+use mathlib.Core.Path.{◌≡◌, refl, sym, ◌∙◌}
+use mathlib.Core.Bool.{true, false}
 use lib.Dec.{eqb}
 use borrow.Author.Tests.{eqb-true, eq-eqb}
 use Rattle.floats.proofs.Tests.{split, clash}
 use Rattle.limits.specs.Checks.{none}
-use Rattle.limits.specs.Outcome.{done, refused, is_done, number_of, values_of, answered}
+use Rattle.limits.specs.Outcome.{done, is_done, number_of, values_of, answered}
 
 module _ {X : Type 0} (n : ℕ) (zeros values : X) where
   pub number_answered : number_of (answered n zeros values) ≡ n
@@ -30,11 +30,3 @@ module _ {X : Type 0} (n : ℕ) (zeros values : X) where
   pub none_answered : number_of (answered n zeros values) ≡ none → answered n zeros values ≡ done (values_of (answered n zeros values))
   unfolding answered
   none_answered h = let z = sym number_answered ∙ h in rw (eq-eqb n none z)
-
-  -- no refusal has the number none
-  pub refused_number : (k : ℕ) (x : X) → refused k x ≡ answered n zeros values → k ≡ none → ⊥
-  unfolding answered
-  refused_number k x r z =
-      split (eqb n none)
-      (λ t. true≢false (sym (ap is_done (rw t at r))))
-      (λ f. let e : k ≡ n = ap number_of (rw f at r) in clash (eq-eqb n none (sym e ∙ z)) f)

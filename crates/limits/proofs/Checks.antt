@@ -8,8 +8,9 @@ use Prim.Native.Nat.{ℕ, ◌<◌}
 use native.Mathlib.Omega.{arith}
 use lib.Dec.{ltb, leb, eqb}
 use borrow.Author.Tests.{ltb-true, leb-true, eq-eqb, ne_eqb, lt-leb, not-true}
-use Rattle.floats.proofs.Tests.{clash, and_left, and_right, or_left_false, or_right_false}
+use Rattle.floats.proofs.Tests.{by, clash, and_left, and_right, or_left_false, or_right_false}
 use Rattle.limits.specs.Checks.{first, none}
+use Rattle.limits.specs.Outcome.{Outcome, done, refused}
 
 pub first_holds : (holds : Bool) (number rest : ℕ) → holds ≡ true → first holds number rest ≡ number
 unfolding first
@@ -18,6 +19,21 @@ first_holds holds number rest h = simp h
 pub first_passes : (holds : Bool) (number rest : ℕ) → holds ≡ false → first holds number rest ≡ rest
 unfolding first
 first_passes holds number rest h = simp h
+
+-- what is so of a row's number and of what comes behind it is so of the chain's
+pub first_keeps : (P : ℕ → Type 0) (holds : Bool) (number rest : ℕ) → P number → P rest → P (first holds number rest)
+unfolding first
+first_keeps P true number rest h k = h
+first_keeps P false number rest h k = k
+
+-- done, or refused by a number of which P is so
+abbrev pub IfRefused : {X : Type 0} → (ℕ → Type 0) → Outcome X → Type 0
+IfRefused P (done x) = Unit {0}
+IfRefused P (refused number x) = P number
+
+-- refused by such a number, or an outcome that is so
+pub chosen : {X : Type 0} (P : ℕ → Type 0) (n : ℕ) (x : X) (o : Outcome X) → P n → IfRefused P o → IfRefused P (if eqb n none then o else refused n x)
+chosen P n x o h k = by (IfRefused P) (λ (b : Bool). if b then o else refused n x) (eqb n none) (λ _. k) (λ _. h)
 
 -- where no number comes, the first check passed and so did the others
 pub none_passes : (holds : Bool) (number rest : ℕ) → 0 < number → first holds number rest ≡ none → (holds ≡ false) × (rest ≡ none)

@@ -1,7 +1,7 @@
 // The hexadecimal program: lines of frames are answered from the quote book, a line for each.
 #![tactic(auto)]
 
-ghost use Rattle.std.specs.Prelude.{◌≡◌, ◌+◌, ◌≤◌, length};
+ghost use Rattle.std.specs.Prelude.{◌≡◌, ◌+◌, ◌≤◌, length, Err};
 ghost use Rattle.std.proofs.Math.Seq.{paste};
 ghost use Rattle.floats.specs.Operators.{decimal};
 ghost use Rattle.limits.specs.Outcome.{number_of, values_of};
@@ -24,10 +24,10 @@ use std::ops::ControlFlow;
 fn answer_line(answer: Result<f64, Refusal>) -> [u8; 19]
     ensures { let said = outcome_with (decimal 0 1) answer in result ≡ answer_line (number_of said) (values_of said) }
 {
-    match answer {
-        Ok(value) => frames::answer_line(0, value),
-        Err(refusal) => frames::answer_line(refusal.into(), 0.0),
-    }
+    frames::answer_line(
+        outcomes::number_of(answer),
+        outcomes::values_of(answer, 0.0),
+    )
 }
 
 // The answer's bytes at a place of the buffer.
@@ -38,7 +38,8 @@ fn put(text: &[u8; 19], out: &mut [u8], at: usize)
     out[at..at + 19].copy_from_slice(text);
 }
 
-// What the program holds while a buffer is written: its first `at` bytes are.
+// What the program holds while a buffer is written: its first `at` bytes are. A place in the buffer and no slice of what is left of it: hexlines' `Moved` and
+// protocol's `LineEnded`, and their laws, say what stands up to a place, and of a slice would have to speak of what lies before it too.
 #[derive(Clone, Copy)]
 struct Progress {
     state: State,
@@ -46,6 +47,9 @@ struct Progress {
 }
 
 impl Progress {
+    // The columns and the buffer are lent apart, and are no fields: a caller may lend another buffer at each call, as crate lines_test does, and would have to
+    // make a struct of both anew each time.
+
     // A line has ended: its frame is heard, and the answer is put behind the text.
     fn end_line(&mut self, columns: &mut QuoteColumns<'_>, out: &mut [u8])
         requires { self.old.at + 19 ≤ length out.old }
@@ -78,6 +82,16 @@ pub fn start() -> State
     }
 }
 
+// Nothing is heard: the buffer has no room for the answers of so many lines.
+fn short(state: State, lines: usize) -> Fed
+    ensures { result ≡ record { state = state; text = Err (record { lines = lines }) } }
+{
+    Fed {
+        state,
+        text: Err(Short { lines }),
+    }
+}
+
 // Hears a chunk of the input. The answers to the lines that it ends go to the front of `out`; what is left of it is held.
 #[tactic(auto, unfolding(protocol::specs::Calls::fed, protocol::specs::Calls::if_room), using(protocol::proofs::Lengths::too_short))]
 pub fn feed(state: State, chunk: &[u8], columns: &mut QuoteColumns<'_>, out: &mut [u8]) -> Fed
@@ -87,12 +101,10 @@ pub fn feed(state: State, chunk: &[u8], columns: &mut QuoteColumns<'_>, out: &mu
 {
     let lines = streams::count_lines(chunk);
     if out.len() / 19 < lines {
-        return Fed {
-            state,
-            text: Err(Short { lines }),
-        };
+        return short(state, lines);
     }
     let mut p = Progress { state, at: 0 };
+    // A place in the chunk and no slice of what is left of it, as at `Progress`: so hexlines' `taken` and its laws have it.
     let mut from = 0;
     for _ in 0..lines {
         let taken = streams::take_line(p.state.line, chunk, from);
@@ -119,10 +131,7 @@ pub fn finish(state: State, columns: &mut QuoteColumns<'_>, out: &mut [u8]) -> F
 {
     let lines = streams::begun(state.line);
     if out.len() / 19 < lines {
-        return Fed {
-            state,
-            text: Err(Short { lines }),
-        };
+        return short(state, lines);
     }
     if lines == 0 {
         return Fed {

@@ -10,33 +10,39 @@ const STDIN_FILENO: i32 = 0;
 
 const STDOUT_FILENO: i32 = 1;
 
-// The program's state and its columns, the last answer, and how many times it came in a row.
+// An answer, and how many times it came in a row.
+#[derive(Clone, Copy)]
+struct Repeated {
+    answer: [u8; 19],
+    times: u64,
+}
+
+// The program's state and its columns, and the last answer: none before a tray's first.
 #[derive(Drop)]
 struct Run<'a> {
     state: State,
     columns: QuoteColumns<'a>,
-    last: [u8; 19],
-    times: u64,
+    last: Option<Repeated>,
 }
 
 impl Run<'_> {
     // An answer ends with a line feed.
     fn show(&self) {
-        if self.times > 0 {
-            io::print_decimal(STDOUT_FILENO, self.times);
+        if let Some(last) = &self.last {
+            io::print_decimal(STDOUT_FILENO, last.times);
             io::write_all(STDOUT_FILENO, b" ");
-            io::write_all(STDOUT_FILENO, &self.last);
+            io::write_all(STDOUT_FILENO, &last.answer);
         }
     }
 
     // One more answer: the same as the last, or another.
     fn note(&mut self, answer: [u8; 19]) {
-        if self.last == answer && self.times < 100000 {
-            self.times += 1;
-        } else {
-            self.show();
-            self.last = answer;
-            self.times = 1;
+        match &mut self.last {
+            Some(last) if last.answer == answer && last.times < 100000 => last.times += 1,
+            _ => {
+                self.show();
+                self.last = Some(Repeated { answer, times: 1 });
+            }
         }
     }
 
@@ -66,7 +72,14 @@ impl Run<'_> {
         self.show();
         io::write_all(STDOUT_FILENO, b"end\n");
         self.state = lines::start();
-        self.times = 0;
+        self.last = None;
+    }
+
+    // Feeds the chunks in turn, all of them so many times.
+    fn feed_times(&mut self, times: u64, chunks: &[&[u8]]) {
+        for chunk in (0..times).flat_map(|_| chunks) {
+            self.feed(chunk);
+        }
     }
 
     // A line feed is a chunk of its own.
@@ -74,15 +87,11 @@ impl Run<'_> {
         let Some((head, piece)) = line.split_first_chunk::<6>() else {
             return;
         };
-        let mark = head[5];
-        if mark == b'.' {
-            return self.end_tray();
-        }
-        for _ in 0..count_of(&head[..5]) {
-            self.feed(piece);
-            if mark == b' ' {
-                self.feed(b"\n");
-            }
+        let times = count_of(&head[..5]);
+        match head[5] {
+            b'.' => self.end_tray(),
+            b' ' => self.feed_times(times, &[piece, b"\n"]),
+            _ => self.feed_times(times, &[piece]),
         }
     }
 }
@@ -108,8 +117,7 @@ fn main() {
             expiries: &mut expiries,
             volatilities: &mut volatilities,
         },
-        last: [0u8; 19],
-        times: 0,
+        last: None,
     };
     for line in space[..n].split(|&b| b == b'\n') {
         run.run_line(line);

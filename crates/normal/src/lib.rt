@@ -1,5 +1,5 @@
 // erfc, pdf and cdf on f64, each equal to its definition of crate `gauss` for every input.
-#![tactic(auto)]
+#![tactic(auto, unfolding(crate::proofs::Definitions::opened))]
 
 ghost use Rattle.std.specs.Prelude.{◌≡◌, true, false};
 ghost use Rattle.floats.specs.Operators.{decimal, ◌⊕◌, ◌⊗◌, ◌⊘◌, ◌≺◌};
@@ -10,7 +10,7 @@ ghost use Rattle.normal.specs.Pairs.{both};
 
 use std::f64::consts::{FRAC_2_SQRT_PI, SQRT_2};
 
-// Two values, or what one function makes of them.
+// Two values, or what one function makes of them. They have names and are no array, since those who call `cdf_pair` mean one of them.
 #[derive(Clone, Copy)]
 pub struct Pair {
     pub first: f64,
@@ -100,7 +100,7 @@ fn series_pair(v: Pair) -> Pair
     Pair::new(a.sum, b.sum)
 }
 
-// c of two fractions after its 60 rounds, in one loop.
+// c of two fractions after their 60 rounds, in one loop.
 fn fraction_pair(v: Pair) -> Pair
     ensures { result ≡ both (λ v. fraction v levels) v.first v.second }
 {
@@ -115,6 +115,7 @@ fn fraction_pair(v: Pair) -> Pair
 }
 
 // erfc of two values under 2, by the series.
+#[tactic(auto, unfolding(crate::proofs::Definitions::opened, gauss::specs::Erfc::erfc_from_zero))]
 fn near_pair(v: Pair) -> Pair
     requires { (v.first ≺ decimal 2 1 ≡ true) × (v.second ≺ decimal 2 1 ≡ true) }
     ensures { result ≡ both erfc_from_zero v.first v.second }
@@ -125,6 +126,7 @@ fn near_pair(v: Pair) -> Pair
 }
 
 // erfc of two values from 2 on, by the fraction. Where both numerators are 0 so are both quotients, and no fraction is wanted.
+#[tactic(auto, unfolding(crate::proofs::Definitions::opened, gauss::specs::Erfc::erfc_from_zero))]
 fn far_pair(v: Pair) -> Pair
     requires { (v.first ≺ decimal 2 1 ≡ false) × (v.second ≺ decimal 2 1 ≡ false) }
     ensures { result ≡ both erfc_from_zero v.first v.second }
@@ -170,6 +172,7 @@ fn mirrored(v: f64, e: f64) -> f64
 }
 
 // erfc of two values, each from that of its upright value.
+#[tactic(auto, using(gauss::proofs::Mirror::of_upright), unfolding(crate::proofs::Definitions::opened))]
 fn erfc_pair(v: Pair) -> Pair
     ensures { result ≡ both erfc v.first v.second }
 {

@@ -2,41 +2,42 @@
 // and ok or MISMATCH. The last line has the totals. vectors.py makes the vectors and says what a line holds and where the expected values are from.
 #![tactic(auto)]
 
+use std::iter;
 use vectors::{Tally, Wanted, Words};
 
 const STDOUT_FILENO: i32 = 1;
 
-// Four letters for the function, a mark, and three words: the input, what is wanted, and the tolerance.
+// Four letters for the function, a mark, and three words: the input, what is wanted, and the tolerance, or a pair's other argument.
 const LINE: usize = 58;
 
-// The function by the first two letters of its name; 1st and 2nd are the values of a pair, x beside another.
-fn value(letters: [u8; 2], x: f64, other: f64) -> f64 {
-    match letters {
-        [b'1', _] => normal::cdf_pair(x, other).first,
-        [b'2', _] => normal::cdf_pair(other, x).second,
-        [b's', _] => root::sqrt(x),
-        [b'l', _] => exponential::ln(x),
-        [b'p', _] => normal::pdf(x),
-        [b'c', _] => normal::cdf(x),
-        [_, b'x'] => exponential::exp(x),
+// The function of a name; 1st and 2nd are the values of a pair, x beside another.
+fn value(name: &[u8], x: f64, other: f64) -> f64 {
+    match name {
+        b"1st " => normal::cdf_pair(x, other).first,
+        b"2nd " => normal::cdf_pair(other, x).second,
+        b"sqrt" => root::sqrt(x),
+        b"ln  " => exponential::ln(x),
+        b"pdf " => normal::pdf(x),
+        b"cdf " => normal::cdf(x),
+        b"exp " => exponential::exp(x),
         _ => normal::erfc(x),
     }
 }
 
 // Answers whether the function agrees with the line, and writes the answer out. '=' asks for the same bits, anything else for a distance of at most
-// the tolerance.
+// the tolerance: a pair's lines ask for the same bits.
 fn judge(line: &[u8; LINE]) -> bool {
     let mut words = Words { text: &line[7..] };
     let input = words.word();
     let bits = words.word();
-    let tolerance = words.float();
-    let got = value([line[0], line[1]], frames::float_of(input), tolerance);
+    let tolerance_or_other = words.float();
+    let got = value(&line[..4], frames::float_of(input), tolerance_or_other);
     let wanted = if line[5] == b'=' {
         Wanted::Bits(bits)
     } else {
         Wanted::Near {
             value: frames::float_of(bits),
-            tolerance,
+            tolerance: tolerance_or_other,
         }
     };
     let agrees = wanted.is_met(got);
@@ -50,11 +51,8 @@ fn judge(line: &[u8; LINE]) -> bool {
 }
 
 fn main() {
-    let mut tally = Tally::NONE;
-    for _ in 0..100000 {
-        let Some(line) = vectors::read_line() else {
-            break;
-        };
+    let mut tally = Tally::default();
+    for line in iter::from_fn(vectors::read_line::<LINE>).take(100000) {
         if line[0] != b'#' {
             tally.count(judge(&line));
         }

@@ -1,18 +1,19 @@
 -- A blank strike of a reading is not answered by the expiry's number. Assumes nothing.
-use Rattle.std.specs.Prelude.{Some, if◌then◌else◌}
+use Rattle.std.specs.Prelude.{Some}
 use Prim.Native.Nat.{ℕ}
 use mathlib.Core.Path.{◌≡◌, refl, sym, subst}
-use mathlib.Core.Bool.{Bool, true, false, cond, not}
+use mathlib.Core.Bool.{Bool, true, false, not}
 use mathlib.Core.List.{List}
 use borrow.Author.Tests.{eq-eqb}
 use lib.Dec.{eqb}
 use lib.ListN.{get_or, take}
 use lib.Ieee.{Float, nan, inf, fin, le}
 use Rattle.floats.specs.Operators.{◌≼◌}
-use Rattle.floats.proofs.Tests.{by, clash}
+use Rattle.floats.proofs.Tests.{clash}
 use Rattle.limits.specs.Ranges.{within}
 use Rattle.limits.specs.Checks.{first, none}
 use Rattle.limits.specs.Outcome.{Outcome, done, refused, answered}
+use Rattle.limits.proofs.Checks.{first_keeps, IfRefused, chosen}
 use Rattle.grid.specs.Readings.{inside, read_refusal, reading}
 use Rattle.chart.specs.Build.{refusal}
 use Rattle.chart.specs.declared.Lengths.{Lengths}
@@ -25,29 +26,26 @@ use Rattle.protocol.specs.declared.Asked.{Asked}
 use Rattle.protocol.specs.Hear.{said, blank, read_of, reads, asked_by, answers, hears}
 
 -- Done, or refused by another number than the expiry's.
-abbrev Other : {X : Type 0} → Outcome X → Type 0
-Other (done x) = Unit {0}
-Other (refused number x) = number ≡ 20 → ⊥
+abbrev Not20 : ℕ → Type 0
+Not20 n = n ≡ 20 → ⊥
 
-other : (n : ℕ) → eqb n 20 ≡ false → n ≡ 20 → ⊥
+abbrev Other : {X : Type 0} → Outcome X → Type 0
+Other o = IfRefused Not20 o
+
+other : (n : ℕ) → eqb n 20 ≡ false → Not20 n
 other n h e = clash (eq-eqb n 20 e) h
 
-skip : (holds : Bool) (number rest : ℕ) → eqb number 20 ≡ false → (rest ≡ 20 → ⊥) → first holds number rest ≡ 20 → ⊥
-unfolding first
-skip holds number rest h k =
-    by (λ (n : ℕ). n ≡ 20 → ⊥) (λ (b : Bool). cond b number rest) holds (λ _. other number h) (λ _. k)
+skip : (holds : Bool) (number rest : ℕ) → eqb number 20 ≡ false → Not20 rest → Not20 (first holds number rest)
+skip holds number rest h k = first_keeps Not20 holds number rest (other number h) k
 
 stops : (holds : Bool) (number rest : ℕ) → holds ≡ true → eqb number 20 ≡ false → first holds number rest ≡ 20 → ⊥
 unfolding first
 stops holds number rest t h = rw t (other number h)
 
-chosen : {X : Type 0} (n : ℕ) (x : X) (o : Outcome X) → (n ≡ 20 → ⊥) → Other o → Other (if eqb n none then o else refused n x)
-chosen n x o h k = by Other (λ (b : Bool). cond b o (refused n x)) (eqb n none) (λ _. k) (λ _. h)
-
 build_other : (b : Book) (c : Columns) (s : Buffers) → Other (build_outcome b c s)
 unfolding build_refusal refusal answered
 build_other b c s =
-    chosen _ _ (done _)
+    chosen Not20 _ _ (done _)
     (skip _ 1 _ refl
     (skip _ 2 _ refl
     (skip _ 1 _ refl (skip _ 2 _ refl (skip _ 15 _ refl (skip _ 16 _ refl (skip _ 17 none refl (other none refl))))))))
@@ -66,7 +64,7 @@ off_axis axis = rw (at_most_blank (get_or axis 0 nan))
 read_other : (ks ts grid : _) (m n : ℕ) (expiry : Float) → Other (reading ks ts grid m n nan expiry)
 unfolding reading read_refusal answered
 read_other ks ts grid m n expiry =
-    chosen _ _ (done _)
+    chosen Not20 _ _ (done _)
     (skip _ 2 _ refl (skip _ 15 _ refl (skip _ 18 _ refl (stops _ 19 _ (off_axis (take m ks)) refl))))
     tt
 

@@ -1,15 +1,16 @@
 -- The numbers that frames are answered with. Assumes nothing.
-use Rattle.std.specs.Prelude.{Option, Some, None, if◌then◌else◌}
+use Rattle.std.specs.Prelude.{Option, Some, None}
 use Prim.Native.Nat.{ℕ}
 use mathlib.Core.Path.{◌≡◌, refl}
-use mathlib.Core.Bool.{Bool, true, not, ◌&&◌, cond}
+use mathlib.Core.Bool.{Bool, true, not, ◌&&◌}
 use lib.Dec.{leb, eqb}
 use borrow.Author.Tests.{leb-true, eq-eqb, not-true}
 use lib.Ieee.{Float}
 use Rattle.floats.specs.Operators.{decimal}
-use Rattle.floats.proofs.Tests.{by, clash, and_left, and_right}
+use Rattle.floats.proofs.Tests.{clash, and_left, and_right}
 use Rattle.limits.specs.Checks.{first, none}
 use Rattle.limits.specs.Outcome.{Outcome, done, refused, values_of, answered}
+use Rattle.limits.proofs.Checks.{first_keeps, IfRefused, chosen}
 use Rattle.brent.specs.declared.Solution.{Solution}
 use Rattle.brent.specs.Outcome.{ended}
 use Rattle.brent.specs.Feed.{over}
@@ -42,23 +43,17 @@ is_tabled n h =
 
 -- Done, or refused by a number of the table.
 abbrev InTable : {X : Type 0} → Outcome X → Type 0
-InTable (done x) = Unit {0}
-InTable (refused number x) = Tabled number
+InTable o = IfRefused Tabled o
 
 next : (holds : Bool) (number rest : ℕ) → (leb number 21 && not (eqb number 14)) ≡ true → Tabled rest → Tabled (first holds number rest)
-unfolding first
-next holds number rest h k = by Tabled (λ (b : Bool). cond b number rest) holds (λ _. is_tabled number h) (λ _. k)
+next holds number rest h k = first_keeps Tabled holds number rest (is_tabled number h) k
 
 no_number : Tabled none
 no_number = is_tabled none refl
 
--- Refused by the number, or an outcome that is in the table.
-chosen : {X : Type 0} (n : ℕ) (x : X) (o : Outcome X) → Tabled n → InTable o → InTable (if eqb n none then o else refused n x)
-chosen n x o h k = by InTable (λ (b : Bool). cond b o (refused n x)) (eqb n none) (λ _. k) (λ _. h)
-
 open_tabled : (o : Opening) → InTable (opened o)
 unfolding opened open_refusal answered
-open_tabled o = chosen _ _ (done _) (next _ 6 _ refl (next _ 9 none refl no_number)) tt
+open_tabled o = chosen Tabled _ _ (done _) (next _ 6 _ refl (next _ 9 none refl no_number)) tt
 
 given_tabled : {n k : ℕ} → Given n k → Tabled n
 given_tabled five = is_tabled 5 refl
@@ -86,14 +81,14 @@ own_tabled o = next _ 5 _ refl (next _ 7 _ refl (next _ 8 _ refl (next _ 10 none
 offer_tabled : (model : Model) (short : Bool) (b : Book) (o : Offer) → InTable (offer_outcome model short b o)
 unfolding offer_outcome offer_refusal
 offer_tabled model short b o =
-    chosen _ _ (answer model _ o)
+    chosen Tabled _ _ (answer model _ o)
     (next _ 1 _ refl (next _ 2 _ refl (next _ 3 _ refl (next _ 4 _ refl (own_tabled o)))))
     (answer_tabled (prices_of model _ o) o.terms)
 
 build_tabled : (b : Book) (c : Columns) (s : Buffers) → InTable (build_outcome b c s)
 unfolding build_refusal refusal answered
 build_tabled b c s =
-    chosen _ _ (done _)
+    chosen Tabled _ _ (done _)
     (next _ 1 _ refl
     (next _ 2 _ refl
     (next _ 1 _ refl (next _ 2 _ refl (next _ 15 _ refl (next _ 16 _ refl (next _ 17 none refl no_number)))))))
@@ -102,7 +97,7 @@ build_tabled b c s =
 read_tabled : (ks ts grid : _) (m n : ℕ) (strike expiry : Float) → InTable (reading ks ts grid m n strike expiry)
 unfolding reading read_refusal answered
 read_tabled ks ts grid m n strike expiry =
-    chosen _ _ (done _)
+    chosen Tabled _ _ (done _)
     (next _ 2 _ refl (next _ 15 _ refl (next _ 18 _ refl (next _ 19 _ refl (next _ 20 none refl no_number)))))
     tt
 

@@ -1,7 +1,7 @@
 // The readings of a lent grid, of src/options/surface.rs; and the strike nearest a spot, of document 02's S-2.
-#![tactic(auto)]
+#![tactic(auto, using(crate::proofs::Definitions::facts), unfolding(crate::proofs::Definitions::opened))]
 
-ghost use Rattle.std.specs.Prelude.{◌≡◌, true, false, ◌&&◌, ◌≤◌, ◌<◌, length};
+ghost use Rattle.std.specs.Prelude.{◌≡◌, true, false, ◌&&◌, ◌≤◌, ◌<◌, length, MatchOption, IfOk};
 ghost use Rattle.floats.specs.Operators.{◌≺◌};
 ghost use Rattle.floats.specs.Values.{finite};
 ghost use Rattle.limits.specs.Refusals.{number_in};
@@ -30,65 +30,98 @@ fn is_axis(axis: &[f64]) -> bool
     floats::is_finite(*first) && axis.is_sorted_by(|x, y| rises(*x, *y))
 }
 
-// 19 and 20.
-#[tactic(auto, unfolding(grid::specs::Readings::inside))]
-fn inside(axis: &[f64], x: f64) -> bool
-    requires { 0 < length axis.now }
-    ensures { result ≡ inside axis.now x }
-{
-    limits::in_range(axis[0], axis[axis.len() - 1], x)
-}
-
-#[tactic(auto, unfolding(grid::specs::Readings::fraction, limits::proofs::Float::of_bits, limits::proofs::Float::round))]
 fn fraction(lo: f64, hi: f64, x: f64) -> f64
     ensures { result ≡ fraction lo hi x }
 {
     let span = hi - lo;
-    if floats::abs(span) < 1e-15 {
+    if span.abs() < 1e-15 {
         0.0
     } else {
         (x - lo) / span
     }
 }
 
-// The index of the first axis value above x, or the length.
-fn first_above(axis: &[f64], x: f64) -> usize
-    requires { is_axis axis.now ≡ true }
-    ensures { result ≡ first_where (above x) axis.now }
+fn away_from(spot: f64, strike: f64) -> f64
+    ensures { result ≡ away_from spot strike }
 {
-    axis.partition_point(|v| *v <= x)
+    (strike - spot).abs()
 }
 
-#[tactic(auto, using(grid::proofs::Axes::axis_long))]
-fn bracket(axis: &[f64], x: f64) -> Span
-    requires { is_axis axis.now ≡ true }
-    ensures { (result ≡ bracket axis.now x) × (result.lower < length axis.now) × (result.upper < length axis.now) }
-{
-    let n = axis.len();
-    let pos = first_above(axis, x);
-    if n == 1 || pos == 0 {
-        return Span {
-            lower: 0,
-            upper: 0,
-            fraction: 0.0,
-        };
+// The values of an axis.
+#[derive(Clone, Copy)]
+struct Axis<'a> {
+    values: &'a [f64],
+    ghost rises: { is_axis values.now ≡ true },
+}
+
+impl<'a> Axis<'a> {
+    // None where the values are no axis.
+    fn of(values: &'a [f64]) -> Option<Axis<'a>>
+        ensures { MatchOption result (is_axis values.now ≡ false) (λ axis. axis.values.now ≡ values.now) }
+    {
+        if is_axis(values) {
+            Some(Axis { values })
+        } else {
+            None
+        }
     }
-    if n <= pos {
-        return Span {
-            lower: n - 1,
-            upper: n - 1,
-            fraction: 0.0,
-        };
+
+    // 19 and 20.
+    fn spans(&self, x: f64) -> bool
+        ensures { result ≡ inside self.now.values.now x }
+    {
+        limits::in_range(self.values[0], self.values[self.values.len() - 1], x)
     }
-    let lo = pos - 1;
-    Span {
-        lower: lo,
-        upper: pos,
-        fraction: fraction(axis[lo], axis[pos], x),
+
+    // The index of the first value above x, or the length.
+    fn first_above(&self, x: f64) -> usize
+        ensures { result ≡ first_where (above x) self.now.values.now }
+    {
+        self.values.partition_point(|v| *v <= x)
+    }
+
+    fn bracket(&self, x: f64) -> Span
+        ensures value { result ≡ bracket self.now.values.now x }
+        ensures within { (result.lower < length self.now.values.now) × (result.upper < length self.now.values.now) }
+    {
+        let n = self.values.len();
+        let pos = self.first_above(x);
+        if n == 1 || pos == 0 {
+            return Span {
+                lower: 0,
+                upper: 0,
+                fraction: 0.0,
+            };
+        }
+        if n <= pos {
+            return Span {
+                lower: n - 1,
+                upper: n - 1,
+                fraction: 0.0,
+            };
+        }
+        let lo = pos - 1;
+        Span {
+            lower: lo,
+            upper: pos,
+            fraction: fraction(self.values[lo], self.values[pos], x),
+        }
+    }
+
+    // The first of the values that none is nearer to the spot than.
+    fn nearest(&self, spot: f64) -> f64
+        ensures { result ≡ nearest_strike spot self.now.values.now }
+    {
+        let mut nearest = self.values[0];
+        for strike in self.values {
+            if away_from(spot, *strike) < away_from(spot, nearest) {
+                nearest = *strike;
+            }
+        }
+        nearest
     }
 }
 
-#[tactic(auto, unfolding(grid::specs::Readings::corners))]
 fn corner_cells(grid: &[f64], s: Span, e: Span) -> Corners
     requires { (2048 ≤ length grid.now) × (s.lower < 64) × (s.upper < 64) × (e.lower < 32) × (e.upper < 32) }
     ensures { result ≡ corners s e grid.now }
@@ -103,21 +136,20 @@ fn corner_cells(grid: &[f64], s: Span, e: Span) -> Corners
     }
 }
 
-#[tactic(auto, using(floats::proofs::Signs::nan_is), unfolding(grid::specs::Readings::has_gap))]
 fn has_gap(v: Corners) -> bool
     ensures { result ≡ has_gap v }
 {
     v.v00.is_nan() || v.v10.is_nan() || v.v01.is_nan() || v.v11.is_nan()
 }
 
-#[tactic(auto, unfolding(grid::specs::Readings::bilinear, limits::proofs::Float::of_bits, limits::proofs::Float::round))]
 fn bilinear(v: Corners, ts: f64, te: f64) -> f64
     ensures { result ≡ bilinear v ts te }
 {
     (1.0 - te) * ((1.0 - ts) * v.v00 + ts * v.v10) + te * ((1.0 - ts) * v.v01 + ts * v.v11)
 }
 
-// A lent surface: both axes, the grid, and how many strikes and expiries are in use.
+// A lent surface: both axes, the grid, and how many strikes and expiries are in use. Three slices and two counts are what the C interface lends:
+// a read tells 2 and 15 of all five before it cuts a slice to its size.
 #[derive(Clone, Copy)]
 pub struct Surface<'a> {
     pub strike_axis: &'a [f64],
@@ -127,12 +159,36 @@ pub struct Surface<'a> {
     pub expiries: usize,
 }
 
-impl Surface<'_> {
-    // 2, 15, 18, 19 and 20, as far as no cell is read. An axis is read only where it has room for its values, and its ends only where it has one, so 2,
-    // 15 and 18 return before.
-    #[tactic(auto, unfolding(grid::specs::Readings::read_refusal, limits::specs::Checks::first))]
-    fn check_point(&self, strike: f64, expiry: f64) -> Result<(), Refusal>
-        ensures { number_in result ≡ refusal_of self.now strike expiry }
+// Both axes of a surface.
+#[derive(Clone, Copy)]
+struct Axes<'a> {
+    strikes: Axis<'a>,
+    expiries: Axis<'a>,
+}
+
+impl<'a> Surface<'a> {
+    // The strikes in use, or all where the count is larger.
+    pub fn strikes_in_use(&self) -> &'a [f64]
+        ensures { result.now ≡ strikes_of self.now }
+    {
+        self.strike_axis
+            .get(..self.strikes)
+            .unwrap_or(self.strike_axis)
+    }
+
+    // Likewise. A function for both would take a slice with its count.
+    pub fn expiries_in_use(&self) -> &'a [f64]
+        ensures { result.now ≡ expiries_of self.now }
+    {
+        self.expiry_axis
+            .get(..self.expiries)
+            .unwrap_or(self.expiry_axis)
+    }
+
+    // 2, 15, 18, 19 and 20, as far as no cell is read; the axes, where none of them holds.
+    fn axes_at(&self, strike: f64, expiry: f64) -> Result<Axes<'a>, Refusal>
+        ensures number { number_in result ≡ refusal_of self.now strike expiry }
+        ensures in_use { IfOk result (λ axes. (axes.strikes.values.now ≡ strikes_of self.now) × (axes.expiries.values.now ≡ expiries_of self.now)) }
     {
         check(
             self.strikes <= 64 && self.expiries <= 32,
@@ -142,70 +198,55 @@ impl Surface<'_> {
             && self.expiry_axis.len() >= 32
             && self.grid.len() >= 2048;
         check(long, Refusal::ShortBuffer)?;
-        let strikes = &self.strike_axis[..self.strikes];
-        let expiries = &self.expiry_axis[..self.expiries];
-        check(is_axis(strikes), Refusal::NoSurface)?;
-        check(is_axis(expiries), Refusal::NoSurface)?;
-        check(inside(strikes, strike), Refusal::StrikeRead)?;
-        check(inside(expiries, expiry), Refusal::ExpiryRead)
+        let strikes = Axis::of(self.strikes_in_use()).ok_or(Refusal::NoSurface)?;
+        let expiries = Axis::of(self.expiries_in_use()).ok_or(Refusal::NoSurface)?;
+        check(strikes.spans(strike), Refusal::StrikeRead)?;
+        check(expiries.spans(expiry), Refusal::ExpiryRead)?;
+        Ok(Axes { strikes, expiries })
     }
 
     // The Rust's `interpolate`. Checks 2, 15, 18, 19 and 20.
     pub fn interpolate(&self, strike: f64, expiry: f64) -> Result<f64, Refusal>
         ensures { read_outcome result ≡ reading_of self.now strike expiry }
     {
-        self.check_point(strike, expiry)?;
-        let s = bracket(&self.strike_axis[..self.strikes], strike);
-        let e = bracket(&self.expiry_axis[..self.expiries], expiry);
+        let axes = self.axes_at(strike, expiry)?;
+        let s = axes.strikes.bracket(strike);
+        let e = axes.expiries.bracket(expiry);
         let v = corner_cells(self.grid, s, e);
         check(!has_gap(v), Refusal::ExpiryRead)?;
         Ok(bilinear(v, s.fraction, e.fraction))
+    }
+
+    fn middle(&self) -> f64
+        ensures { result ≡ middle_strike self.now.strike_axis.now self.now.strikes }
+    {
+        self.strike_axis
+            .get(self.strikes / 2)
+            .copied()
+            .unwrap_or(grid::nan())
     }
 
     // The reading at the middle strike: the Rust's `atm_vol`.
     pub fn middle_strike(&self, expiry: f64) -> Result<f64, Refusal>
         ensures { read_outcome result ≡ reading_of self.now (middle_strike self.now.strike_axis.now self.now.strikes) expiry }
     {
-        self.interpolate(middle(self.strike_axis, self.strikes), expiry)
+        self.interpolate(self.middle(), expiry)
     }
 
     // The strike nearest the spot, of those in use; not-a-number where they are no axis.
     pub fn nearest_strike(&self, spot: f64) -> f64
         ensures { result ≡ nearest_strike spot (strikes_of self.now) }
     {
-        let strikes = &self.strike_axis[..self.strikes.min(self.strike_axis.len())];
-        if !is_axis(strikes) {
-            return grid::nan();
-        }
-        nearest(strikes, spot)
+        nearest_strike(self.strikes_in_use(), spot)
     }
 }
 
-fn middle(strike_axis: &[f64], strikes: usize) -> f64
-    ensures { result ≡ middle_strike strike_axis.now strikes }
-{
-    strike_axis.get(strikes / 2).copied().unwrap_or(grid::nan())
-}
-
-// ---- the strike nearest a spot
-
-fn away_from(spot: f64, strike: f64) -> f64
-    ensures { result ≡ away_from spot strike }
-{
-    floats::abs(strike - spot)
-}
-
-// Of an axis: the first of the strikes that none is nearer than.
-#[tactic(auto, using(grid::proofs::Axes::axis_long))]
-fn nearest(strikes: &[f64], spot: f64) -> f64
-    requires { is_axis strikes.now ≡ true }
+// The strike nearest the spot. What is no axis has none: not-a-number and no `Option`, since this call answers any slice, and a reading at it is refused.
+pub fn nearest_strike(strikes: &[f64], spot: f64) -> f64
     ensures { result ≡ nearest_strike spot strikes.now }
 {
-    let mut nearest = strikes[0];
-    for strike in strikes {
-        if away_from(spot, *strike) < away_from(spot, nearest) {
-            nearest = *strike;
-        }
+    match Axis::of(strikes) {
+        Some(axis) => axis.nearest(spot),
+        None => grid::nan(),
     }
-    nearest
 }

@@ -6,13 +6,14 @@
 ghost use Rattle.std.specs.Prelude.{◌≤◌};
 
 use admission::{Quotes, SurfaceBuffers};
-use blackscholes::{Greeks, OptionParams, OptionType};
+use blackscholes::{OptionParams, OptionType};
 use brent::{Solution, Unsolved};
 use chart::Lengths;
 use frames::bits_of;
 use limits::Refusal;
 use outcomes::number_of;
 use readings::Surface;
+use std::iter;
 use vectors::{Tally, Words};
 
 const STDIN_FILENO: i32 = 0;
@@ -108,9 +109,20 @@ impl Kind {
     }
 }
 
-// The kind of a line; none where it bears the name of no kind.
-fn kind_of(head: [u8; 6]) -> Option<Kind> {
-    Kind::ALL.iter().copied().find(|kind| kind.name() == head)
+// The six bytes are the name of no kind.
+#[derive(Clone, Copy)]
+struct Nameless;
+
+impl TryFrom<[u8; 6]> for Kind {
+    type Error = Nameless;
+
+    fn try_from(head: [u8; 6]) -> Result<Kind, Nameless> {
+        Kind::ALL
+            .iter()
+            .copied()
+            .find(|kind| kind.name() == head)
+            .ok_or(Nameless)
+    }
 }
 
 // Of a line of no kind two words are read.
@@ -138,7 +150,7 @@ fn read_line() -> Option<Line> {
     if io::read_full(STDIN_FILENO, &mut head) == 0 {
         return None;
     }
-    let kind = kind_of(head);
+    let kind = Kind::try_from(head).ok();
     let end = 17 * width_of(kind) + 1;
     let got = io::read_full(STDIN_FILENO, &mut words[..end]);
     let is_whole = got == end && words[end - 1] == b'\n';
@@ -156,6 +168,8 @@ fn answers(words: &mut Words<'_>, answer: &[u64]) -> bool {
 
 // ---- functions and options
 
+// What an answer's words are stands in slips as well, for ./quote: the sample's format is its own, and this test stands apart from ./quote's words.
+
 fn judge_function<F: Fn(f64) -> f64>(words: &mut Words<'_>, f: F) -> bool
     requires { F.IsAlwaysCallable f }
 {
@@ -164,10 +178,9 @@ fn judge_function<F: Fn(f64) -> f64>(words: &mut Words<'_>, f: F) -> bool
 }
 
 fn option_type(words: &mut Words<'_>) -> OptionType {
-    if words.word() == 0 {
-        OptionType::Call
-    } else {
-        OptionType::Put
+    match words.word() {
+        0 => OptionType::Call,
+        _ => OptionType::Put,
     }
 }
 
@@ -198,19 +211,9 @@ fn judge_price(words: &mut Words<'_>) -> bool {
     answers(words, &[number_of(price), bits_of(price.unwrap_or(0.0))])
 }
 
-const NO_GREEKS: Greeks = Greeks {
-    delta: 0.0,
-    gamma: 0.0,
-    theta: 0.0,
-    vega: 0.0,
-    rho: 0.0,
-    vanna: 0.0,
-    volga: 0.0,
-};
-
 fn judge_greeks(words: &mut Words<'_>) -> bool {
     let greeks = greeks::bsm_greeks(priced_option(words));
-    let g = greeks.unwrap_or(NO_GREEKS);
+    let g = greeks.unwrap_or_default();
     let answer = [
         number_of(greeks),
         bits_of(g.delta),
@@ -251,12 +254,9 @@ fn judge_solve(words: &mut Words<'_>) -> bool {
 
 // ---- a surface
 
-const NO_LENGTHS: Lengths = Lengths {
-    strikes: 0,
-    expiries: 0,
-};
-
-// The quotes that wait for a build, and what the last one left.
+// The quotes that wait for a build, and what the last one left. Columns of their own, since a build is lent three slices, as the C interface lends them.
+// surface_test has the same arrays, and `surface` stands there and in blotter too. No crate that all three see has admission, chart and readings, as one that
+// held them would: vectors is seen by the tests of the lowest crates, and a crate of its own would be public, with contracts and edits, for a few lines.
 #[derive(Drop)]
 struct Sheet {
     strikes: [f64; 1024],
@@ -296,11 +296,11 @@ impl Sheet {
             expiry_axis: [0.0; 32],
             grid: [0.0; 2048],
             counts: [0; 2048],
-            lengths: NO_LENGTHS,
+            lengths: Lengths::default(),
         }
     }
 
-    // A quote goes to the end of the columns.
+    // A quote goes to the end of the columns. One test serves all three: a `get_mut` for each would be no plainer.
     fn quote(&mut self, words: &mut Words<'_>) {
         let at = self.quotes;
         if at < 1024 {
@@ -326,7 +326,7 @@ impl Sheet {
         };
         let built = surface::build(&quotes, self.quotes as u64, &mut buffers);
         self.quotes = 0;
-        self.lengths = built.unwrap_or(NO_LENGTHS);
+        self.lengths = built.unwrap_or_default();
         built
     }
 
@@ -376,9 +376,8 @@ impl Sheet {
 // ---- the gap filler
 
 fn gap(words: &mut Words<'_>, cells: &mut [f64]) {
-    let at = words.word() as usize;
-    if at < cells.len() {
-        cells[at] = words.float();
+    if let Some(cell) = cells.get_mut(words.word() as usize) {
+        *cell = words.float();
     }
 }
 
@@ -457,12 +456,9 @@ fn print_totals(tallies: [Tally; 19], unreadable: Tally) {
 fn main() {
     let mut sheet = Sheet::empty();
     let mut cells = [0.0; 2048];
-    let mut tallies = [Tally::NONE; 19];
-    let mut unreadable = Tally::NONE;
-    for number in 1..100001 {
-        let Some(line) = read_line() else {
-            break;
-        };
+    let mut tallies = [Tally::default(); 19];
+    let mut unreadable = Tally::default();
+    for (number, line) in (1..100001).zip(iter::from_fn(read_line)) {
         let Some(kind) = line.kind else {
             unreadable.count(false);
             report(number, &line);

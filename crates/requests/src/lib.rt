@@ -1,12 +1,13 @@
 // What a line asks, by its name and words.
 #![tactic(auto)]
 
-ghost use Rattle.std.specs.Prelude.{◌≡◌};
-ghost use Rattle.wording.specs.Requests.{opening, offered, build, read, money, option, ends, request_of};
+ghost use Rattle.std.specs.Prelude.{◌≡◌, eqb, ltb, Some, None, if◌then◌else◌};
+ghost use Rattle.ledger.specs.Rows.{kind_of};
+ghost use Rattle.wording.specs.Requests.{opening, price_offered, volatility_offered, build, read, money, option, ends, request_of};
 
-use blackscholes::OptionParams;
+use blackscholes::{OptionParams, OptionType};
 use frames::float_of;
-use ledger::Opening;
+use ledger::{Offer, Opening, Terms};
 use wording::Request;
 
 fn opening(words: &[u64]) -> Option<Request>
@@ -21,14 +22,37 @@ fn opening(words: &[u64]) -> Option<Request>
     }))
 }
 
-fn offered(is_price: bool, is_put: bool, words: &[u64]) -> Option<Request>
-    ensures { result ≡ offered is_price is_put words.now }
+// Nearly `volatility_offered`. One function over a closure for the terms was tried. It proves, but its contract requires a closure that can be called and says
+// what follows for each function that the closure computes, which each caller would have to name, where these two say `price_offered kind words`.
+fn price_offered(kind: OptionType, words: &[u64]) -> Option<Request>
+    ensures { result ≡ price_offered kind words.now }
 {
-    let &[strike, expiry, value] = words else {
+    let &[strike, expiry, market] = words else {
         return None;
     };
-    let figures = [float_of(strike), float_of(expiry), float_of(value)];
-    Some(Request::Offer(rows::offer_of([is_price, is_put], figures)))
+    Some(Request::Offer(Offer {
+        strike: float_of(strike),
+        expiry: float_of(expiry),
+        terms: Terms::Price {
+            kind,
+            market: float_of(market),
+        },
+    }))
+}
+
+fn volatility_offered(words: &[u64]) -> Option<Request>
+    ensures { result ≡ volatility_offered words.now }
+{
+    let &[strike, expiry, volatility] = words else {
+        return None;
+    };
+    Some(Request::Offer(Offer {
+        strike: float_of(strike),
+        expiry: float_of(expiry),
+        terms: Terms::Volatility {
+            v: float_of(volatility),
+        },
+    }))
 }
 
 fn build(words: &[u64]) -> Option<Request>
@@ -63,24 +87,32 @@ fn money(words: &[u64]) -> Option<Request>
     })
 }
 
-// A model's option, whose first word is 0 or 1.
+// A kind's word: 0 for a call, 1 for a put.
+fn kind(word: u64) -> Option<OptionType>
+    ensures { result ≡ (if ltb 1 word then None else Some (kind_of (eqb word 1))) }
+{
+    match word {
+        0 => Some(OptionType::Call),
+        1 => Some(OptionType::Put),
+        _ => None,
+    }
+}
+
+#[tactic(auto, unfolding(ledger::specs::Rows::option_of))]
 fn option(words: &[u64]) -> Option<OptionParams>
     ensures { result ≡ option words.now }
 {
     let &[put, spot, strike, expiry, rate, volatility] = words else {
         return None;
     };
-    if put > 1 {
-        return None;
-    }
-    Some(rows::option_of(
-        put == 1,
-        float_of(spot),
-        float_of(strike),
-        float_of(expiry),
-        float_of(rate),
-        float_of(volatility),
-    ))
+    Some(OptionParams {
+        option_type: kind(put)?,
+        spot: float_of(spot),
+        strike: float_of(strike),
+        time_to_expiry: float_of(expiry),
+        risk_free_rate: float_of(rate),
+        volatility: float_of(volatility),
+    })
 }
 
 fn ends(words: &[u64]) -> Option<Request>
@@ -89,11 +121,8 @@ fn ends(words: &[u64]) -> Option<Request>
     let &[put, strike, expiry, market] = words else {
         return None;
     };
-    if put > 1 {
-        return None;
-    }
     Some(Request::Ends {
-        kind: rows::kind_of(put == 1),
+        kind: kind(put)?,
         strike: float_of(strike),
         expiry: float_of(expiry),
         market: float_of(market),
@@ -101,15 +130,15 @@ fn ends(words: &[u64]) -> Option<Request>
 }
 
 // What a line of this name with these words asks.
-#[tactic(auto, unfolding(wording::specs::Requests::request_of))]
+#[tactic(auto, unfolding(wording::specs::Requests::request_of), using(crate::proofs::Names::six))]
 pub fn request_of(name: &[u8; 6], words: &[u64]) -> Option<Request>
     ensures { result ≡ request_of name.now words.now }
 {
     match name {
         b"open  " => opening(words),
-        b"call  " => offered(true, false, words),
-        b"put   " => offered(true, true, words),
-        b"vol   " => offered(false, false, words),
+        b"call  " => price_offered(OptionType::Call, words),
+        b"put   " => price_offered(OptionType::Put, words),
+        b"vol   " => volatility_offered(words),
         b"build " => build(words),
         b"read  " => read(words),
         b"money " => money(words),

@@ -1,3 +1,4 @@
+pub mod Definitions
 pub mod Squares
 pub mod Nearest
 pub mod Laws

@@ -3,10 +3,10 @@ use mathlib.Core.Path.{◌≡◌, refl, sym, ap, ◌∙◌, subst}
 use mathlib.Core.Bool.{Bool, true, false, cond, not}
 use Prim.Native.Nat.{ℕ, zero, suc, ◌+◌, ◌-◌, ◌*◌, ◌/◌, ◌%◌, ◌^◌, ◌≤◌, ◌<◌}
 use native.Mathlib.Omega.{arith}
-use native.Mathlib.Nat.{mul_comm, mul_assoc, div-eq_of_lt, div-le_self, div-lt_iff_lt-mul, lt_of_lt_of_le, lt_of_le_of_lt, lt_irrefl, lt_of_not-le, mul-le-mul}
+use native.Mathlib.Nat.{mul_comm, mul_assoc, div-lt_iff_lt-mul, lt_of_lt_of_le, lt_of_le_of_lt, lt_irrefl, lt_of_not-le, mul-le-mul}
 use native.Mathlib.Nat.{le_antisymm, mod-lt}
 use lib.Dec.{T, leb, leb→le, nleb→lt}
-use lib.Pow.{pow-add, pow_mono, shl_lt, shr-shr, shl-shr}
+use lib.Pow.{pow-add, pow_mono, shl_lt, shl-shr}
 use lib.Ieee.{binary64, of_bits, odd, nan_bits, is_nan}
 use lib.Ieee.Bits.{nan_bits_is}
 use Rattle.root.specs.Root.{whole_root, half_root}

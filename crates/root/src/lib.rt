@@ -1,6 +1,6 @@
 // The square root of an f64, correctly rounded, for every input, in the order in which IEEE 754 tells it: exceptional operands, the exact root, the
 // rounding. The numbers in brackets are clauses of its edition of 2019.
-#![tactic(auto)]
+#![tactic(auto, using(floats::proofs::Exceptions::exceptional), unfolding(crate::proofs::Definitions::opened))]
 
 ghost use Rattle.std.specs.Prelude.{◌≡◌, ◌+◌, ◌*◌, ◌/◌, ◌%◌, ◌^◌, ◌≤◌, ◌<◌, T, eqb, if◌then◌else◌, MatchOption};
 ghost use Rattle.std.specs.Float.Ieee.Positive.{positive};

@@ -1,5 +1,5 @@
 // One round of Brent's method, as the Rust's `implied_volatility` writes it.
-#![tactic(auto)]
+#![tactic(auto, using(limits::proofs::Float::abs), unfolding(crate::proofs::Definitions::opened))]
 
 ghost use Rattle.std.specs.Prelude.{◌≡◌};
 ghost use Rattle.brent.specs.Brent.{reset, swap, tolerance, middle, converged, advance};
@@ -8,7 +8,6 @@ ghost use Rattle.brent.specs.Brent.{turned, by_line, by_parabola, interpolation,
 use brent::{LastSteps, Points, Ratio};
 
 // c opposes b again.
-#[tactic(auto, unfolding(brent::specs::Brent::reset, limits::proofs::Float::of_bits, limits::proofs::Float::round))]
 pub fn reset(p: Points) -> Points
     ensures { result ≡ reset p }
 {
@@ -27,7 +26,6 @@ pub fn reset(p: Points) -> Points
 }
 
 // b has the smaller error.
-#[tactic(auto, using(limits::proofs::Float::abs), unfolding(brent::specs::Brent::swap))]
 pub fn swap(p: Points) -> Points
     ensures { result ≡ swap p }
 {
@@ -46,21 +44,18 @@ pub fn swap(p: Points) -> Points
     }
 }
 
-#[tactic(auto, using(limits::proofs::Float::abs), unfolding(brent::specs::Brent::tolerance, limits::proofs::Float::of_bits, limits::proofs::Float::round))]
 fn tolerance(b: f64) -> f64
     ensures { result ≡ tolerance b }
 {
     2.0 * f64::EPSILON * b.abs() + 0.5 * 0.000001
 }
 
-#[tactic(auto, unfolding(brent::specs::Brent::middle, limits::proofs::Float::of_bits, limits::proofs::Float::round))]
 fn middle(b: f64, c: f64) -> f64
     ensures { result ≡ middle b c }
 {
     0.5 * (c - b)
 }
 
-#[tactic(auto, using(limits::proofs::Float::abs), unfolding(brent::specs::Brent::converged, limits::proofs::Float::of_bits, limits::proofs::Float::round))]
 pub fn converged(p: Points) -> bool
     ensures { result ≡ converged p }
 {
@@ -68,7 +63,6 @@ pub fn converged(p: Points) -> bool
 }
 
 // The sign of p / q goes to q.
-#[tactic(auto, unfolding(brent::specs::Brent::turned, limits::proofs::Float::of_bits, limits::proofs::Float::round))]
 fn turned(p: f64, q: f64) -> Ratio
     ensures { result ≡ turned p q }
 {
@@ -79,95 +73,113 @@ fn turned(p: f64, q: f64) -> Ratio
     }
 }
 
-// Where the line through two points crosses 0.
-#[tactic(auto, unfolding(brent::specs::Brent::by_line, limits::proofs::Float::of_bits, limits::proofs::Float::round))]
-fn by_line(p: Points, xm: f64) -> Ratio
-    ensures { result ≡ by_line p xm }
-{
-    let s = p.fb / p.fa;
-    turned(2.0 * xm * s, 1.0 - s)
+// The points of a round with what its steps are measured by: the tolerance, and half of the way from b to c.
+#[derive(Clone, Copy)]
+struct Round {
+    points: Points,
+    tol1: f64,
+    xm: f64,
+    ghost near: { tol1 ≡ tolerance points.b },
+    ghost half_way: { xm ≡ middle points.b points.c },
 }
 
-// Where the parabola through three points does.
-#[tactic(auto, unfolding(brent::specs::Brent::by_parabola, limits::proofs::Float::of_bits, limits::proofs::Float::round))]
-fn by_parabola(p: Points, xm: f64) -> Ratio
-    ensures { result ≡ by_parabola p xm }
-{
-    let s = p.fb / p.fa;
-    let q2 = p.fa / p.fc;
-    let r2 = p.fb / p.fc;
-    turned(
-        s * (2.0 * xm * q2 * (q2 - r2) - (p.b - p.a) * (r2 - 1.0)),
-        (q2 - 1.0) * (r2 - 1.0) * (s - 1.0),
-    )
-}
-
-// By a line where a and c are the same point, else by a parabola.
-#[tactic(auto, using(limits::proofs::Float::abs), unfolding(brent::specs::Brent::interpolation, limits::proofs::Float::of_bits, limits::proofs::Float::round))]
-fn interpolation(p: Points, xm: f64) -> Ratio
-    ensures { result ≡ interpolation p xm }
-{
-    if (p.a - p.c).abs() < f64::EPSILON {
-        by_line(p, xm)
-    } else {
-        by_parabola(p, xm)
-    }
-}
-
-#[tactic(auto, using(limits::proofs::Float::abs), unfolding(brent::specs::Brent::tries))]
-fn tries(p: Points, tol1: f64) -> bool
-    ensures { result ≡ tries p tol1 }
-{
-    p.e.abs() >= tol1 && p.fa.abs() > p.fb.abs()
-}
-
-#[tactic(auto, using(limits::proofs::Float::abs), unfolding(brent::specs::Brent::accepts, limits::proofs::Float::of_bits, limits::proofs::Float::round))]
-fn accepts(r: Ratio, e: f64, tol1: f64, xm: f64) -> bool
-    ensures { result ≡ accepts r e tol1 xm }
-{
-    2.0 * r.p < floats::min(3.0 * xm * r.q - (tol1 * r.q).abs(), e.abs() * r.q.abs())
-}
-
-// By the interpolation, or half way to c.
-#[tactic(auto, unfolding(brent::specs::Brent::steps))]
-fn steps(p: Points, tol1: f64, xm: f64) -> LastSteps
-    ensures { result ≡ steps p tol1 xm }
-{
-    if tries(p, tol1) {
-        let r = interpolation(p, xm);
-        if accepts(r, p.e, tol1, xm) {
-            return LastSteps {
-                d: r.p / r.q,
-                e: p.d,
-            };
+impl Round {
+    fn of(points: Points) -> Round
+        ensures { result.points ≡ points }
+    {
+        Round {
+            points,
+            tol1: tolerance(points.b),
+            xm: middle(points.b, points.c),
         }
     }
-    LastSteps { d: xm, e: xm }
-}
 
-// At least the tolerance, towards c.
-#[tactic(auto, using(limits::proofs::Float::abs), unfolding(brent::specs::Brent::step))]
-fn step(d: f64, tol1: f64, xm: f64) -> f64
-    ensures { result ≡ step d tol1 xm }
-{
-    if d.abs() > tol1 {
-        d
-    } else {
-        floats::copysign(tol1, xm)
+    // Where the line through two points crosses 0.
+    fn by_line(self) -> Ratio
+        ensures { result ≡ by_line self.points self.xm }
+    {
+        let s = self.points.fb / self.points.fa;
+        turned(2.0 * self.xm * s, 1.0 - s)
+    }
+
+    // Where the parabola through three points does.
+    fn by_parabola(self) -> Ratio
+        ensures { result ≡ by_parabola self.points self.xm }
+    {
+        let p = self.points;
+        let s = p.fb / p.fa;
+        let q2 = p.fa / p.fc;
+        let r2 = p.fb / p.fc;
+        turned(
+            s * (2.0 * self.xm * q2 * (q2 - r2) - (p.b - p.a) * (r2 - 1.0)),
+            (q2 - 1.0) * (r2 - 1.0) * (s - 1.0),
+        )
+    }
+
+    // By a line where a and c are the same point, else by a parabola.
+    fn interpolation(self) -> Ratio
+        ensures { result ≡ interpolation self.points self.xm }
+    {
+        if (self.points.a - self.points.c).abs() < f64::EPSILON {
+            self.by_line()
+        } else {
+            self.by_parabola()
+        }
+    }
+
+    fn tries(self) -> bool
+        ensures { result ≡ tries self.points self.tol1 }
+    {
+        self.points.e.abs() >= self.tol1 && self.points.fa.abs() > self.points.fb.abs()
+    }
+
+    fn accepts(self, r: Ratio) -> bool
+        ensures { result ≡ accepts r self.points.e self.tol1 self.xm }
+    {
+        let most = 3.0 * self.xm * r.q - (self.tol1 * r.q).abs();
+        2.0 * r.p < floats::min(most, self.points.e.abs() * r.q.abs())
+    }
+
+    // By the interpolation, or half way to c.
+    fn steps(self) -> LastSteps
+        ensures { result ≡ steps self.points self.tol1 self.xm }
+    {
+        if self.tries() {
+            let r = self.interpolation();
+            if self.accepts(r) {
+                return LastSteps {
+                    d: r.p / r.q,
+                    e: self.points.d,
+                };
+            }
+        }
+        LastSteps {
+            d: self.xm,
+            e: self.xm,
+        }
+    }
+
+    // At least the tolerance, towards c.
+    fn step(self, d: f64) -> f64
+        ensures { result ≡ step d self.tol1 self.xm }
+    {
+        if d.abs() > self.tol1 {
+            d
+        } else {
+            floats::copysign(self.tol1, self.xm)
+        }
     }
 }
 
 // The next point, with the last in its place.
-#[tactic(auto, unfolding(brent::specs::Brent::advance, limits::proofs::Float::of_bits, limits::proofs::Float::round))]
 pub fn advance(p: Points) -> Points
     ensures { result ≡ advance p }
 {
-    let tol1 = tolerance(p.b);
-    let xm = middle(p.b, p.c);
-    let s = steps(p, tol1, xm);
+    let round = Round::of(p);
+    let s = round.steps();
     Points {
         a: p.b,
-        b: p.b + step(s.d, tol1, xm),
+        b: p.b + round.step(s.d),
         fa: p.fb,
         fb: 0.0,
         d: s.d,

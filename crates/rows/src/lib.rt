@@ -20,6 +20,7 @@ pub fn kind_of(is_put: bool) -> OptionType
     }
 }
 
+// A C host passes both as `bool`s.
 fn terms_of(is_price: bool, is_put: bool, value: f64) -> Terms
     ensures { result ≡ terms_of is_price is_put value }
 {
@@ -45,6 +46,7 @@ pub fn offer_of(kind: [bool; 2], figures: [f64; 3]) -> Offer
     }
 }
 
+// A C host passes a kind and five figures, each by itself: `OptionParams` is their struct, and is made here.
 #[tactic(auto, unfolding(ledger::specs::Rows::option_of))]
 pub fn option_of(
     put: bool,
@@ -66,7 +68,8 @@ pub fn option_of(
     }
 }
 
-// An answer's rows: its number, 0 where it was accepted, and evaluations; volatility, error, point c and its error.
+// An answer's rows: its number, 0 where it was accepted, and evaluations; volatility, error, point c and its error. No `From` makes an array of a `Result`,
+// since neither type is a crate's own.
 #[tactic(auto, unfolding(ledger::specs::Rows::numbers_of, brent::specs::Outcome::outcome_of_implied, brent::specs::Outcome::zeros))]
 pub fn numbers_of(answer: Result<Solution, Unsolved>) -> [u64; 2]
     ensures { result ≡ numbers_of (outcome_of_implied answer) }

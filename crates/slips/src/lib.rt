@@ -1,30 +1,19 @@
 // The words of an answer.
-#![tactic(auto)]
+#![tactic(auto, unfolding(limits::proofs::Float::of_bits, limits::proofs::Float::round))]
 
-ghost use Rattle.std.specs.Prelude.{◌≡◌, ◌∷◌, ◌-◌, ◌<◌, replicate};
-ghost use Rattle.limits.specs.Refusals.{number};
+ghost use Rattle.std.specs.Prelude.{◌≡◌};
 ghost use Rattle.blackscholes.specs.Checks.{outcome_of_price, pricing, sensitivities};
 ghost use Rattle.blackscholes.specs.Implied.{outcome_of_implied};
 ghost use Rattle.chart.specs.Build.{outcome};
 ghost use Rattle.ledger.specs.Money.{money_outcome};
 ghost use Rattle.wording.specs.Words.{value_words, money_words, offer_words, greeks_words, build_words, cell_words, ends_words};
 
-use blackscholes::OptionParams;
+use blackscholes::{Greeks, OptionParams};
 use brent::{Answer, Solution, Unsolved};
 use chart::Lengths;
 use frames::bits_of;
 use ledger::Money;
 use limits::Refusal;
-
-// A refusal's number, and zeros for the figures.
-fn refused<const N: usize>(refusal: Refusal) -> [u64; N]
-    requires { 0 < N }
-    ensures { result ≡ number refusal ∷ replicate (N - 1) 0 }
-{
-    let mut words = [0; N];
-    words[0] = u64::from(refusal);
-    words
-}
 
 #[tactic(auto, unfolding(ledger::specs::Rows::numbers_of, ledger::specs::Rows::evidence_of))]
 pub fn offer_words(answer: Result<Solution, Unsolved>) -> [u64; 6]
@@ -45,10 +34,12 @@ pub fn offer_words(answer: Result<Solution, Unsolved>) -> [u64; 6]
 pub fn build_words(answer: Result<Lengths, Refusal>) -> [u64; 3]
     ensures { result ≡ build_words (outcome answer) }
 {
-    match answer {
-        Ok(lengths) => [0, lengths.strikes as u64, lengths.expiries as u64],
-        Err(refusal) => refused(refusal),
-    }
+    let lengths = outcomes::values_of(answer, Lengths::default());
+    [
+        outcomes::number_of(answer),
+        lengths.strikes as u64,
+        lengths.expiries as u64,
+    ]
 }
 
 pub fn cell_words(value: f64, count: u64) -> [u64; 2]
@@ -58,24 +49,22 @@ pub fn cell_words(value: f64, count: u64) -> [u64; 2]
 }
 
 // A price's or a reading's.
-#[tactic(auto, using(crate::proofs::Zero::zero_bits))]
 pub fn value_words(answer: Result<f64, Refusal>) -> [u64; 2]
     ensures { result ≡ value_words (outcome_of_price answer) }
 {
-    match answer {
-        Ok(value) => [0, bits_of(value)],
-        Err(refusal) => refused(refusal),
-    }
+    let value = outcomes::values_of(answer, 0.0);
+    [outcomes::number_of(answer), bits_of(value)]
 }
 
-#[tactic(auto, using(crate::proofs::Zero::zero_bits))]
 pub fn money_words(answer: Result<Money, Refusal>) -> [u64; 3]
     ensures { result ≡ money_words (money_outcome answer) }
 {
-    match answer {
-        Ok(money) => [0, bits_of(money.strike), bits_of(money.volatility)],
-        Err(refusal) => refused(refusal),
-    }
+    let money = outcomes::values_of(answer, Money::default());
+    [
+        outcomes::number_of(answer),
+        bits_of(money.strike),
+        bits_of(money.volatility),
+    ]
 }
 
 pub fn price_words(option: OptionParams) -> [u64; 2]
@@ -84,23 +73,21 @@ pub fn price_words(option: OptionParams) -> [u64; 2]
     value_words(greeks::bsm_price(option))
 }
 
-#[tactic(auto, using(crate::proofs::Zero::zero_bits))]
 pub fn greeks_words(option: OptionParams) -> [u64; 8]
     ensures { result ≡ greeks_words (sensitivities option) }
 {
-    match greeks::bsm_greeks(option) {
-        Ok(greeks) => [
-            0,
-            bits_of(greeks.delta),
-            bits_of(greeks.gamma),
-            bits_of(greeks.theta),
-            bits_of(greeks.vega),
-            bits_of(greeks.rho),
-            bits_of(greeks.vanna),
-            bits_of(greeks.volga),
-        ],
-        Err(refusal) => refused(refusal),
-    }
+    let answer = greeks::bsm_greeks(option);
+    let greeks = outcomes::values_of(answer, Greeks::default());
+    [
+        outcomes::number_of(answer),
+        bits_of(greeks.delta),
+        bits_of(greeks.gamma),
+        bits_of(greeks.theta),
+        bits_of(greeks.vega),
+        bits_of(greeks.rho),
+        bits_of(greeks.vanna),
+        bits_of(greeks.volga),
+    ]
 }
 
 // The prices at the ends of a solver, which a fresh one has at a, where it asks first, and at b, where it asks next.
@@ -120,6 +107,6 @@ pub fn ends_words(market: f64, option: OptionParams) -> [u64; 3]
             });
             [number, low, high]
         }
-        Answer::Ended { .. } => refused(Refusal::Price),
+        Answer::Ended { .. } => [u64::from(Refusal::Price), 0, 0],
     }
 }

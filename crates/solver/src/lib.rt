@@ -1,5 +1,5 @@
 // Document 01's solver, fed one price at a time by any model: Brent's method as the Rust's `implied_volatility` writes it.
-#![tactic(auto)]
+#![tactic(auto, unfolding(crate::proofs::Definitions::opened))]
 
 ghost use Rattle.std.specs.Prelude.{◌≡◌, false};
 ghost use Rattle.limits.specs.Refusals.{number, number_in};
@@ -9,14 +9,12 @@ ghost use Rattle.brent.specs.Feed.{over, fresh, refuse, ask, find, start, placed
 use brent::{Answer, Points, Solution, Solver, Unsolved};
 use limits::{Refusal, check};
 
-#[tactic(auto, unfolding(brent::specs::Feed::over, limits::proofs::Float::of_bits, limits::proofs::Float::round))]
 fn over() -> Solver
     ensures { result ≡ over }
 {
     Solver::default()
 }
 
-#[tactic(auto, unfolding(brent::specs::Feed::fresh, limits::proofs::Float::of_bits, limits::proofs::Float::round))]
 fn fresh(market: f64) -> Solver
     ensures { result ≡ fresh market }
 {
@@ -34,7 +32,6 @@ fn fresh(market: f64) -> Solver
 }
 
 // The solver ends with a refusal.
-#[tactic(auto, unfolding(brent::specs::Outcome::outcome, brent::specs::Outcome::outcome_of_implied, brent::specs::Feed::refuse))]
 fn refuse(refusal: Refusal, evaluations: u64) -> Answer
     ensures { outcome result ≡ refuse (number refusal) evaluations }
 {
@@ -48,7 +45,6 @@ fn refuse(refusal: Refusal, evaluations: u64) -> Answer
 }
 
 // The solver ends with b as its answer.
-#[tactic(auto, unfolding(brent::specs::Outcome::outcome, brent::specs::Outcome::outcome_of_implied, brent::specs::Feed::find))]
 fn find(p: Points, evaluations: u64) -> Answer
     ensures { outcome result ≡ find p evaluations }
 {
@@ -66,7 +62,6 @@ fn find(p: Points, evaluations: u64) -> Answer
 }
 
 // The solver asks for the price at b.
-#[tactic(auto, unfolding(brent::specs::Outcome::outcome, brent::specs::Outcome::outcome_of_implied, brent::specs::Feed::ask))]
 fn ask(next: Solver) -> Answer
     ensures { outcome result ≡ ask next.market next.points next.rounds next.evaluations }
 {
@@ -77,7 +72,6 @@ fn ask(next: Solver) -> Answer
 }
 
 // Starts a solver for a market price: 5, or it asks for the price at 0.000001.
-#[tactic(auto, unfolding(brent::specs::Outcome::outcome, brent::specs::Feed::start, limits::proofs::Float::of_bits, limits::proofs::Float::round))]
 pub fn start(market: f64) -> Answer
     ensures { outcome result ≡ start market }
 {
@@ -92,7 +86,6 @@ pub fn start(market: f64) -> Answer
 }
 
 // The error of the price that was asked for takes its place among the points.
-#[tactic(auto, unfolding(brent::specs::Feed::placed))]
 fn placed(p: Points, evaluations: u64, error: f64) -> Points
     ensures { result ≡ placed p evaluations error }
 {
@@ -113,7 +106,6 @@ fn placed(p: Points, evaluations: u64, error: f64) -> Points
     }
 }
 
-#[tactic(auto, unfolding(brent::specs::Feed::in_range))]
 fn in_range(p: Points) -> bool
     ensures { result ≡ in_range p }
 {
@@ -121,7 +113,6 @@ fn in_range(p: Points) -> bool
 }
 
 // 21
-#[tactic(auto, unfolding(brent::specs::Feed::is_unusable, limits::proofs::Float::of_bits, limits::proofs::Float::round))]
 fn is_unusable(s: Solver) -> bool
     ensures { result ≡ is_unusable s }
 {
@@ -129,7 +120,6 @@ fn is_unusable(s: Solver) -> bool
 }
 
 // 12
-#[tactic(auto, unfolding(brent::specs::Feed::is_unbracketed, limits::proofs::Float::of_bits, limits::proofs::Float::round))]
 fn is_unbracketed(s: Solver, error: f64) -> bool
     ensures { result ≡ is_unbracketed s error }
 {
@@ -137,7 +127,6 @@ fn is_unbracketed(s: Solver, error: f64) -> bool
 }
 
 // The checks that a feed makes after 21, in document 01's order.
-#[tactic(auto, unfolding(brent::specs::Feed::feed_number, limits::specs::Checks::first))]
 fn check_error(s: Solver, error: f64) -> Result<(), Refusal>
     requires { is_unusable s ≡ false }
     ensures { number_in result ≡ feed_number s error }
@@ -148,16 +137,14 @@ fn check_error(s: Solver, error: f64) -> Result<(), Refusal>
 }
 
 // Answers the price at the volatility that was asked for: 21, 11, 12, 13, or it has found the volatility, or it asks for another price.
-#[tactic(auto, unfolding(brent::specs::Feed::feed, brent::specs::Outcome::outcome, brent::specs::Outcome::outcome_of_implied))]
 pub fn feed(s: Solver, price: f64) -> Answer
     ensures { outcome result ≡ feed s price }
 {
     if is_unusable(s) {
-        let solved = Err(Unsolved {
-            refusal: Refusal::Malformed,
-            evaluations: 0,
-        });
-        return Answer::Ended { solved, next: s };
+        return Answer::Ended {
+            solved: Err(Refusal::Malformed.into()),
+            next: s,
+        };
     }
     let error = price - s.market;
     let evaluations = s.evaluations + 1;

@@ -28,7 +28,8 @@ pub fn push(mut line: Line, b: u8) -> Line
     line
 }
 
-// Takes the bytes from a place on into the line, up to a line feed and with it, or to their end.
+// Takes the bytes from a place on into the line, up to a line feed and with it, or to their end. Both ends are places, as in hexlines' `taken` and its laws: of
+// a slice that is left they would have to say what lies before it too.
 #[tactic(auto, using(hexlines::proofs::Taking::taken_feed, hexlines::proofs::Taking::taken_on, hexlines::proofs::Taking::taken_end))]
 pub fn take_line(mut line: Line, bytes: &[u8], from: usize) -> Taken
     ensures { result ≡ taken line bytes.now from }

@@ -1,29 +1,14 @@
--- What a build makes cells of, as the definitions of crate `chart` speak of it: two axes, and columns of one length.
-use Rattle.std.specs.Prelude.{ℕ, ◌≡◌, List, length, get_or, Float}
+-- What a build makes cells of, as the definitions of crate `chart` speak of it: two axes, and where the cell of a quote stands.
+use Rattle.std.specs.Prelude.{ℕ, get_or}
 use Rattle.std.specs.Float.{nan}
-use Rattle.admission.specs.Lent.{columns_in}
-use Rattle.admission.specs.declared.Quotes.{Quotes}
-use Rattle.chart.specs.Quotes.{Quote, quotes}
-use Rattle.chart.specs.Cells as chart
-use Rattle.chart.specs.Steps.{axes_of, held}
+use Rattle.chart.specs.Axis.{place}
+use Rattle.chart.specs.Cells.{Axes}
+use Rattle.chart.specs.Steps.{axes_of}
 use Rattle.grid.specs.Layout.{cell_at}
-use Rattle.surface.specs.declared.Axes.{Axes}
-use Rattle.surface.specs.declared.Tally.{Tally}
+use Rattle.surface.specs.declared.cells.Placed.{Placed}
 
-abbrev pub axes_in : Axes → chart.Axes
-axes_in a = axes_of a.strikes.now a.expiries.now
+abbrev pub axes_in : Placed → Axes
+axes_in p = axes_of p.strikes.now p.expiries.now
 
--- A quote of each entry.
-abbrev pub quotes_in : Quotes → List Quote
-quotes_in q = quotes (columns_in q) (length q.strikes.now)
-
-pub record OneLength (q : Quotes) : Type 0 where
-  pub expiries : length q.expiries.now ≡ length q.strikes.now
-  pub volatilities : length q.volatilities.now ≡ length q.strikes.now
-
--- What a cell holds in a grid of so many columns, and what it counts, when these sums and counts have been filed.
-abbrev pub cell_of : Tally → ℕ → ℕ → ℕ → Float
-cell_of t columns i = held (λ k. get_or t.sums (cell_at i k) nan) (λ k. get_or t.numbers (cell_at i k) 0) columns
-
-abbrev pub count_of : Tally → ℕ → ℕ → ℕ
-count_of t i k = get_or t.numbers (cell_at i k) 0
+abbrev pub home : Placed → ℕ → ℕ
+home p i = cell_at (place p.expiries.now (get_or p.quotes.expiries.now i nan)) (place p.strikes.now (get_or p.quotes.strikes.now i nan))

@@ -1,1 +1,3 @@
+pub mod Filed
 pub mod Lent
+pub mod Quoted

@@ -2,7 +2,7 @@
 // A call is the number of its words, its kind, and what the functions `run_..` say. Every entry of every lent buffer goes into a digest, in use or not.
 #![tactic(auto)]
 
-ghost use Rattle.std.specs.Prelude.{◌≤◌, length};
+ghost use Rattle.std.specs.Prelude.{◌≤◌};
 
 use admission::{Quotes, SurfaceBuffers};
 use chart::Lengths;
@@ -11,6 +11,7 @@ use ledger::{Book, Money, Opening};
 use limits::Refusal;
 use outcomes::number_of;
 use readings::Surface;
+use std::iter;
 use vectors::Words;
 
 const STDIN_FILENO: i32 = 0;
@@ -18,6 +19,8 @@ const STDIN_FILENO: i32 = 0;
 const STDOUT_FILENO: i32 = 1;
 
 // ---- words in and out
+
+// What an answer's words are stands in slips as well, for ./quote: the vectors' format is their own, and this test stands apart from ./quote's words.
 
 // The next word as a number of at most `most`.
 fn number(words: &mut Words<'_>, most: usize) -> usize
@@ -52,16 +55,16 @@ fn say_digest<T: Copy, F: Fn(T) -> u64>(entries: &[T], word: F)
     say(digest);
 }
 
-// The first n values.
-fn say_axis(axis: &[f64], n: usize) {
-    for x in axis.iter().take(n) {
+fn say_axis(axis: &[f64]) {
+    for x in axis {
         say(bits_of(*x));
     }
 }
 
 // ---- what is lent
 
-// Columns of quotes, of which the first are filled.
+// Columns of quotes, of which the first are filled. They are lent as three slices, as the C interface lends them. Why no crate holds them for replay too, and
+// the buffers and `surface`, is said at its `Sheet`.
 #[derive(Drop)]
 struct Columns {
     strikes: [f64; 1024],
@@ -71,18 +74,18 @@ struct Columns {
 
 impl Columns {
     // The words to come are the first n quotes.
-    fn read(words: &mut Words<'_>, n: usize) -> Columns
-        requires { n ≤ 1024 }
-    {
+    fn read(words: &mut Words<'_>, n: usize) -> Columns {
         let mut columns = Columns {
             strikes: [0.0; 1024],
             expiries: [0.0; 1024],
             volatilities: [0.0; 1024],
         };
-        for i in 0..n {
-            columns.strikes[i] = words.float();
-            columns.expiries[i] = words.float();
-            columns.volatilities[i] = words.float();
+        let options = columns.strikes.iter_mut().zip(&mut columns.expiries);
+        let quotes = options.zip(&mut columns.volatilities);
+        for ((strike, expiry), volatility) in quotes.take(n) {
+            *strike = words.float();
+            *expiry = words.float();
+            *volatility = words.float();
         }
         columns
     }
@@ -126,11 +129,17 @@ impl Buffers {
 
     // The cells of a small surface, each with its count.
     fn say_cells(&self, lengths: Lengths) {
-        for (place, (x, count)) in self.grid.iter().zip(&self.counts).enumerate() {
-            if place / 64 < lengths.expiries && place % 64 < lengths.strikes {
-                say_all(&[bits_of(*x), *count]);
-            }
+        let rows = self.grid.chunks(64).zip(self.counts.chunks(64));
+        for (row, counts) in rows.take(lengths.expiries) {
+            say_row(row, counts, lengths.strikes);
         }
+    }
+}
+
+// The first cells of a row, each with its count.
+fn say_row(row: &[f64], counts: &[u64], strikes: usize) {
+    for (x, count) in row.iter().zip(counts).take(strikes) {
+        say_all(&[bits_of(*x), *count]);
     }
 }
 
@@ -139,8 +148,8 @@ fn poke(buffer: &mut [f64], words: &mut Words<'_>, n: usize) {
     for _ in 0..n {
         let at = words.word() as usize;
         let x = words.float();
-        if at < buffer.len() {
-            buffer[at] = x;
+        if let Some(place) = buffer.get_mut(at) {
+            *place = x;
         }
     }
 }
@@ -164,13 +173,8 @@ fn reads(surface: &Surface<'_>, words: &mut Words<'_>, n: usize) {
     }
 }
 
-const NO_MONEY: Money = Money {
-    strike: 0.0,
-    volatility: 0.0,
-};
-
 fn say_money(read: Result<Money, Refusal>) {
-    let money = read.unwrap_or(NO_MONEY);
+    let money = read.unwrap_or_default();
     say_all(&[
         number_of(read),
         bits_of(money.strike),
@@ -236,12 +240,13 @@ fn say_built(built: Result<Lengths, Refusal>, buffers: &Buffers, words: &mut Wor
         return;
     };
     say_all(&[lengths.strikes as u64, lengths.expiries as u64]);
-    say_axis(&buffers.strike_axis, lengths.strikes);
-    say_axis(&buffers.expiry_axis, lengths.expiries);
+    let surface = buffers.surface(lengths);
+    say_axis(surface.strikes_in_use());
+    say_axis(surface.expiries_in_use());
     if lengths.strikes < 9 {
         buffers.say_cells(lengths);
     }
-    reads(&buffers.surface(lengths), words, r);
+    reads(&surface, words, r);
 }
 
 // 2: strikes, expiries, how much of the grid is lent, m; m cells by place. Every other cell is 7.
@@ -258,7 +263,9 @@ fn run_fill(words: &mut Words<'_>) {
 
 // 3: strikes, expiries, how much of both axes and of the grid is lent, three numbers of pokes, r; the pokes of the axes and the grid; r reads.
 // 4: the same, with reads at the money.
-fn run_reads(words: &mut Words<'_>, kind: u64) {
+fn run_reads<F: Fn(&Surface<'_>, &mut Words<'_>, usize)>(words: &mut Words<'_>, read: F)
+    requires { F.IsAlwaysCallable read }
+{
     let strikes = number(words, 4096);
     let expiries = number(words, 4096);
     let strike_axis = number(words, 64);
@@ -277,10 +284,7 @@ fn run_reads(words: &mut Words<'_>, kind: u64) {
         strikes,
         expiries,
     };
-    match kind {
-        4 => moneys(&surface, words, r),
-        _ => reads(&surface, words, r),
-    }
+    read(&surface, words, r);
 }
 
 fn command(input: &[u8]) {
@@ -288,35 +292,21 @@ fn command(input: &[u8]) {
     match words.word() {
         1 => run_build(&mut words),
         2 => run_fill(&mut words),
-        kind => run_reads(&mut words, kind),
+        4 => run_reads(&mut words, moneys),
+        _ => run_reads(&mut words, reads),
     }
 }
 
-// Reads the n words of a call, and makes it.
-fn call(space: &mut [u8], n: usize)
-    requires { (n ≤ 3855) × (65536 ≤ length space.old) }
-{
-    let input = &mut space[..17 * n];
+// Reads the words of a call, and makes it.
+fn call(input: &mut [u8]) {
     io::read_full(STDIN_FILENO, input);
     command(input);
 }
 
-// A call's number of words; 0 at the end.
-fn size() -> usize
-    ensures { result ≤ 3855 }
-{
-    let mut head = [0; 17];
-    io::read_full(STDIN_FILENO, &mut head);
-    number(&mut Words { text: &head }, 3855)
-}
-
 fn main() {
     let mut space = io::large_buffer();
-    for _ in 0..100000 {
-        let n = size();
-        if n == 0 {
-            return;
-        }
-        call(&mut space, n);
+    for head in iter::from_fn(vectors::read_line::<17>).take(100000) {
+        let size = number(&mut Words { text: &head }, 3855);
+        call(&mut space[..17 * size]);
     }
 }

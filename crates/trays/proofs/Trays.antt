@@ -68,13 +68,13 @@ demand_3 {opening} {os} {a} {c} {s} {b} {c'} {a'} {r} {s'} d h x =
     }
 
 pub quoted_tray : (opening : Opening) (os : List Offer) (a : Answers) (c : Columns) (s : Buffers) (f b : Book) (c' : Columns) (a' : Answers)
-    (r : Result Lengths Refusal) (s' : Buffers) (heards : List Offer) → heards ≡ os → outcome_of_opening (Ok f) ≡ opened opening
-    → HearsAll (record { book = f; columns = c }) heards a b c' a' → BuildsBook b c' s (outcome r) s'
+    (r : Result Lengths Refusal) (s' : Buffers) → outcome_of_opening (Ok f) ≡ opened opening
+    → HearsAll (record { book = f; columns = c }) os a b c' a' → BuildsBook b c' s (outcome r) s'
     → QuotesTray opening os (lent a c s) (reply_of (Ok (record { book = b; built = r }))) (lent a' c' s')
 unfolding reply_of tray_reply lent_after
-quoted_tray opening os a c s f b c' a' r s' heards same e w x =
+quoted_tray opening os a c s f b c' a' r s' e w x =
     let p = opened_fresh opening f e in
-    let h : HearsAll (record { book = fresh opening; columns = c }) os a b c' a' = rw (p.1, same) at w in
+    let h : HearsAll (record { book = fresh opening; columns = c }) os a b c' a' = rw p.1 at w in
     let t = eq-eqb (open_refusal opening) none p.0 in
     record {
       answers = simp t ((λ i. heard b (x.answers i)) ∙ ap (λ (l : Ledger). heard l.book (build_outcome l.book l.columns s)) h.ledger);

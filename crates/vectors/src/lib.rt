@@ -48,7 +48,8 @@ impl Words<'_> {
     }
 }
 
-// Writes a space and 16 hexadecimal digits in upper case.
+// Writes a space and 16 hexadecimal digits in upper case. No `Display`, nor one for `Tally`: the test programs write through crate `io`, and std prints a
+// `Display` with the runtime's handle.
 pub fn print_word(n: u64) {
     io::write_all(STDOUT_FILENO, b" ");
     io::write_all(STDOUT_FILENO, &frames::digits_of(n));
@@ -63,12 +64,13 @@ pub enum Wanted {
 }
 
 impl Wanted {
+    #[tactic(auto, using(limits::proofs::Float::abs))]
     pub fn is_met(self, got: f64) -> bool
         ensures { result ≡ is_met self got }
     {
         match self {
             Wanted::Bits(bits) => frames::bits_of(got) == bits,
-            Wanted::Near { value, tolerance } => floats::abs(got - value) <= tolerance,
+            Wanted::Near { value, tolerance } => (got - value).abs() <= tolerance,
             Wanted::Within { low, high } => low <= got && got <= high,
         }
     }
@@ -82,15 +84,13 @@ pub fn verdict(agrees: bool) -> &'static [u8]
 }
 
 // How many answers agreed, and how many did not.
-#[derive(Clone, Copy)]
+#[derive(Clone, Copy, Default)]
 pub struct Tally {
     pub right: u64,
     pub wrong: u64,
 }
 
 impl Tally {
-    pub const NONE: Tally = Tally { right: 0, wrong: 0 };
-
     pub fn count(&mut self, agrees: bool)
         ensures { self.new ≡ counted self.old agrees }
     {

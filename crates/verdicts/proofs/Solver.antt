@@ -1,5 +1,5 @@
 -- The solver of a priced offer: brent's run on the model's prices. Assumes nothing.
-use Rattle.std.specs.Prelude.{Result}
+use Rattle.std.specs.Prelude.{Result, Ok, Err}
 use mathlib.Core.Path.{◌≡◌, refl, sym, ap, subst}
 use mathlib.Core.Bool.{Bool, true, false, not}
 use mathlib.Core.List.{[], ◌∷◌}
@@ -20,7 +20,7 @@ use Rattle.brent.specs.declared.Solution.{Solution}
 use Rattle.brent.specs.declared.Unsolved.{Unsolved}
 use Rattle.ledger.specs.Model.{bsm, prices_of}
 use Rattle.ledger.specs.Book.{opening_of, is_broken, own_refusal, answer_to, answer, end_of}
-use Rattle.ledger.specs.Calls.{Ended, Solves}
+use Rattle.ledger.specs.Calls.{Ended, Turned, Solves}
 use Rattle.ledger.specs.declared.Book.{Book}
 use Rattle.ledger.specs.declared.Offer.{Offer}
 use Rattle.ledger.specs.declared.Terms.TheVariants.{Volatility, Price}
@@ -76,3 +76,14 @@ solved b o kind market v r p h n e =
     let prices = prices_of bsm (opening_of b) o kind in
     let t : outcome_of_implied r ≡ end_of (run_with market prices).reply = ap end_of (rw z at e) in
     record { outcome = rw p t; ended = subst Ended (sym t) (run_ended market prices) }
+
+-- ---- an answer that is not the one is the other
+pub not_found : (a : Result Solution Unsolved) → ((x : Solution) → a ≡ Ok x → ⊥) → Ended (outcome_of_implied a) → Turned (outcome_of_implied a)
+unfolding outcome_of_implied
+not_found (Ok x) h e = absurd (h x refl)
+not_found (Err why) h e = e
+
+pub not_refused : (a : Result Solution Unsolved) → ((why : Unsolved) → a ≡ Err why → ⊥) → Turned (outcome_of_implied a) → ⊥
+unfolding outcome_of_implied
+not_refused (Ok x) h t = t
+not_refused (Err why) h t = h why refl

@@ -16,7 +16,7 @@ use limits::{Refusal, check};
 
 // ---- the checks of an offer
 
-// 1, of the columns' lengths.
+// 1, of the columns' lengths: this crate is handed no slices, and admission, which tells 1 of a build's, sees no offer.
 pub fn is_short(strikes: usize, expiries: usize, volatilities: usize) -> bool
     ensures { result ≡ shorter strikes expiries volatilities }
 {
@@ -59,7 +59,7 @@ fn bad_volatility(terms: Terms) -> bool
 
 // The offer's own: 5, 7, 8, 10.
 #[tactic(auto, unfolding(ledger::specs::Book::own_refusal, limits::specs::Checks::first))]
-fn check_terms(o: Offer) -> Result<(), Refusal>
+fn check_own(o: Offer) -> Result<(), Refusal>
     ensures { number_in result ≡ own_refusal o }
 {
     check(!bad_price(o.terms), Refusal::Price)?;
@@ -68,7 +68,7 @@ fn check_terms(o: Offer) -> Result<(), Refusal>
     check(!bad_volatility(o.terms), Refusal::Volatility)
 }
 
-// 1 to 4, then the offer's own.
+// 1 to 4, then the offer's own. Whether 1 holds is handed in, here and below: the columns are book's, which this crate does not see.
 #[tactic(auto, unfolding(ledger::specs::Book::offer_refusal, limits::specs::Checks::first))]
 fn check_offer(short: bool, b: Book, o: Offer) -> Result<(), Refusal>
     ensures { number_in result ≡ offer_refusal short b o }
@@ -77,7 +77,7 @@ fn check_offer(short: bool, b: Book, o: Offer) -> Result<(), Refusal>
     check(!is_broken(b), Refusal::OutOfBounds)?;
     check(b.heard < 60000, Refusal::BookClosed)?;
     check(b.kept < 1024, Refusal::BookFull)?;
-    check_terms(o)
+    check_own(o)
 }
 
 // ---- what an offer is answered
@@ -110,17 +110,13 @@ fn solve(b: Book, o: Offer) -> Result<Solution, Unsolved>
 }
 
 // All checks, then the solver.
+#[tactic(auto, using(crate::proofs::Offering::by_check, crate::proofs::Offering::by_check_counted))]
 fn answer(b: Book, short: bool, o: Offer) -> Result<Solution, Unsolved>
     ensures outcome { outcome_of_implied result ≡ offer_outcome bsm short b o }
     ensures counted { Counted b (outcome_of_implied result) }
 {
-    match check_offer(short, b, o) {
-        Ok(()) => solve(b, o),
-        Err(refusal) => Err(Unsolved {
-            refusal,
-            evaluations: 0,
-        }),
-    }
+    check_offer(short, b, o)?;
+    solve(b, o)
 }
 
 // ---- what an offer leaves

@@ -2,11 +2,11 @@
 use mathlib.Core.Path.{refl}
 use lib.Ieee.{to_bits, round}
 use Rattle.brent.specs.Outcome.{zeros}
-use Rattle.wording.specs.Requests.{request_of, offer_of, option_of}
+use Rattle.wording.specs.Requests.{request_of, option_of}
 use Rattle.wording.specs.Laws.{Laws}
 
 pub laws : Laws
-unfolding request_of offer_of option_of zeros to_bits round
+unfolding request_of option_of zeros to_bits round
 laws =
     record {
       offer_found = λ v e c f n. refl;

@@ -1,11 +1,14 @@
 -- What a line asks: by its name of six characters and its words. Another name asks nothing, nor does one with more words or fewer.
 use Prim.Native.String.{String}
-use Rattle.std.specs.Prelude.{ℕ, Bool, true, false, List, [], ◌∷◌, eqb, ltb, Float, Option, Some, None, option_map, bytes_eq, codes, if◌then◌else◌}
+use Rattle.std.specs.Prelude.{ℕ, Bool, List, [], ◌∷◌, eqb, ltb, Float, Option, Some, None, option_map, bytes_eq, codes, if◌then◌else◌}
 use Rattle.std.specs.Float.{binary64}
 use Rattle.std.specs.Float.Ieee.{of_bits}
 use Rattle.blackscholes.specs.declared.OptionParams.{OptionParams}
+use Rattle.blackscholes.specs.declared.OptionType.{OptionType}
+use Rattle.blackscholes.specs.declared.OptionType.TheVariants.{Call, Put}
+use Rattle.ledger.specs.Model.{volatility, priced}
 use Rattle.ledger.specs.Rows.{kind_of}
-unfoldable pub use Rattle.ledger.specs.Rows.{offer_of, option_of}
+unfoldable pub use Rattle.ledger.specs.Rows.{option_of}
 use Rattle.wording.specs.declared.Request.{Request}
 use Rattle.wording.specs.declared.Request.TheVariants.{Open, Offer, Build, Read, Money, Price, Greeks, Ends}
 
@@ -18,10 +21,15 @@ abbrev pub opening : List ℕ → Option Request
 opening (s ∷ r ∷ []) = Some (Open (record { spot = float s; rate = float r }))
 opening _ = None
 
--- "call, put, vol: strike, expiry, value"
-abbrev pub offered : Bool → Bool → List ℕ → Option Request
-offered is_price isPut (k ∷ t ∷ v ∷ []) = Some (Offer (offer_of (is_price ∷ isPut ∷ []) (float k ∷ float t ∷ float v ∷ [])))
-offered is_price isPut _ = None
+-- "call, put: strike, expiry, price"
+abbrev pub price_offered : OptionType → List ℕ → Option Request
+price_offered kind (k ∷ t ∷ m ∷ []) = Some (Offer (priced kind (float k) (float t) (float m)))
+price_offered kind _ = None
+
+-- "vol: strike, expiry, volatility"
+abbrev pub volatility_offered : List ℕ → Option Request
+volatility_offered (k ∷ t ∷ v ∷ []) = Some (Offer (volatility (float k) (float t) (float v)))
+volatility_offered _ = None
 
 abbrev pub build : List ℕ → Option Request
 build [] = Some Build
@@ -53,9 +61,9 @@ called name text = bytes_eq name (codes text)
 unfoldable pub request_of : List ℕ → List ℕ → Option Request
 request_of name words =
     if called name "open  " then opening words else
-    (if called name "call  " then offered true false words else
-    (if called name "put   " then offered true true words else
-    (if called name "vol   " then offered false false words else
+    (if called name "call  " then price_offered Call words else
+    (if called name "put   " then price_offered Put words else
+    (if called name "vol   " then volatility_offered words else
     (if called name "build " then build words else
     (if called name "read  " then read words else
     (if called name "money " then money words else

@@ -62,9 +62,3 @@ loop-c-preserved c =
           (l.invariant.sum ∙ ap (λ (k : ℕ). horner (entry_of table) (length table - 1) c.args.x (length table - 1 - k)) n)
           (last table rest d f);
     }
-
-pub returns : goal.returns
-returns c =
-    let degree = length c.args.table.now - 1 in
-    let n : degree - length c.loop-c.c-iterator.iter.rest.now ≡ degree = let e = c.in-None.ensures.steps.0 in omega arith in
-    c.loop-c.invariant.sum ∙ ap (horner (entry_of c.args.table.now) degree c.args.x) n

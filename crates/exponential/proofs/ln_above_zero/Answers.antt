@@ -1,12 +1,9 @@
 -- `exponential::ln_above_zero`: the digits and the exponent that `taken_apart` reads are the definition's (Mantissas). Assumes nothing.
-use Rattle.std.proofs.Common.{◌≡◌, ℕ, ◌+◌, ◌<◌, ◌≤◌, true, not, T, ℤ, pos}
-use Rattle.std.proofs.Common.{◌-ℤ◌, ap, ◌∙◌, lt_of_not-le, arith, w64, SFits, to_z, of_z, le-ltb, lt-ltb}
-use native.Mathlib.Decide.{dec_le}
-use lib.Signed.{mag}
+use Rattle.std.proofs.Common.{◌≡◌, ℕ, ◌+◌, ◌<◌, true, not, T, pos}
+use Rattle.std.proofs.Common.{negsuc, ◌-ℤ◌, refl, ap, ◌∙◌, arith, w64, to_z, of_z}
 use lib.Ieee.{Float, nan, inf, fin, binary64, fits, is_nan, of_bits, nan_bits}
 use lib.Ieee.Bits.{nan_bits_is}
 use lib.Ieee.Positive.{positive}
-use mir.ValLaws.{to_z-of_z}
 use Rattle.floats.specs.Digits.{Digits, parts_of}
 use Rattle.floats.specs.declared.Parts.{Parts}
 use Rattle.floats.proofs.Tests.{holds}
@@ -14,6 +11,7 @@ use Rattle.floats.proofs.Digits.{digits_are}
 use Rattle.elementary.specs.Ln.{ln, ln_from, mantissa, exponent}
 use Rattle.elementary.proofs.Laws.{at_positive}
 use Rattle.elementary.proofs.Mantissas.{mant_is, expo_is}
+use Rattle.exponential.proofs.Words.{mag_plus, plus_fits, back, plus_back}
 use Rattle.exponential.proofs.ln_above_zero.Goals as goal
 
 mant_no_nan : (v : Float) → T (positive v) → T (not (is_nan (mantissa v)))
@@ -22,22 +20,12 @@ mant_no_nan nan p = absurd p
 mant_no_nan (inf s) p = absurd p
 mant_no_nan (fin s m e) p = tt
 
--- z - 1075, as the machine has it
-less : (z : ℕ) → z < 2099 → mag (pos z -ℤ pos 1075) < 5000
-less z h = go (dec_le 1075 z)
-  where
-    go : Dec (1075 ≤ z) → mag (pos z -ℤ pos 1075) < 5000
-    go (yes y) = rw (le-ltb z 1075 y) (omega arith)
-    go (no f) = let l = lt_of_not-le f in rw (lt-ltb z 1075 l) (omega arith)
-
-less_fits : (z : ℕ) → z < 2099 → SFits w64 (pos z -ℤ pos 1075)
-less_fits z h = let l = less z h in record { sfits = omega arith }
-
+-- z and z - 1075, as the machine has them
 size_back : (z : ℕ) → z < 2099 → to_z w64 z ≡ pos z
-size_back z h = to_z-of_z w64 (pos z) (record { sfits = omega arith })
+size_back z h = back (pos z) (pos z) refl (omega arith)
 
 less_back : (z : ℕ) → z < 2099 → to_z w64 (of_z w64 (to_z w64 z -ℤ pos 1075)) ≡ pos z -ℤ pos 1075
-less_back z h = ap (λ (y : ℤ). to_z w64 (of_z w64 (y -ℤ pos 1075))) (size_back z h) ∙ to_z-of_z w64 (pos z -ℤ pos 1075) (less_fits z h)
+less_back z h = plus_back (pos z) (pos z) refl (omega arith) (negsuc 1074) (omega arith)
 
 -- the digits and the exponent of a float above 0
 module _ (v : Float) (f : fits binary64 v ≡ true) (pos_v : T (positive v)) (p : Parts) (e : p ≡ parts_of v) where
@@ -71,13 +59,14 @@ pub overflow_sub-p : goal.overflow_sub-p
 overflow_sub-p c =
     let z = c.taken_apart-p.result.size in
     let s = (digits c.args.v c.well_formed.0.1 c.requires _ c.taken_apart-p.ensures).small in
-    rw (size_back z s) (less_fits z s)
+    rw (size_back z s) (plus_fits (pos z) (negsuc 1074) (omega arith) (omega arith))
 
 pub ln_from-requires : goal.ln_from-requires
 ln_from-requires c =
     let z = c.taken_apart-p.result.size in
     let s = (digits c.args.v c.well_formed.0.1 c.requires _ c.taken_apart-p.ensures).small in
-    rw (less_back z s) (less z s)
+    let m = mag_plus (pos z) (negsuc 1074) in
+    rw (less_back z s) (omega arith)
 
 pub returns : goal.returns
 returns c = value c.args.v c.well_formed.0.1 c.requires _ c.taken_apart-p.ensures _ c.ln_from.ensures

@@ -24,17 +24,8 @@ module _ (v : Float) (f : fits binary64 v ≡ true) (p : T (positive v)) (low : 
 pub float_to_bits-b : goal.float_to_bits-b
 float_to_bits-b c = no_nan c.args.v c.requires
 
-pub overflow_cast-z : goal.overflow_cast-z
-overflow_cast-z c = let z = zeros c.args.v c.well_formed.0.1 c.requires (omega arith) in omega arith
-
 pub overflow_sub-result : goal.overflow_sub-result
 overflow_sub-result c = let z = zeros c.args.v c.well_formed.0.1 c.requires (omega arith) in omega arith
-
-pub overflow_shl-result : goal.overflow_shl-result
-overflow_shl-result c = let z = zeros c.args.v c.well_formed.0.1 c.requires (omega arith) in omega arith
-
-pub overflow_sub-result-then-field-eq0 : goal.overflow_sub-result-then-field-eq0
-overflow_sub-result-then-field-eq0 c = (zeros c.args.v c.well_formed.0.1 c.requires (omega arith)).1
 
 pub overflow_add-result-else-field-eq0 : goal.overflow_add-result-else-field-eq0
 overflow_add-result-else-field-eq0 c = let l = to_bits-lt binary64 c.args.v (holds _ c.well_formed.0.1) in omega arith

@@ -11,10 +11,10 @@ pub returns-in_err-lengths : goal.returns-in_err-lengths
 unfolding of_bits round read_of
 returns-in_err-lengths c =
     let heard : Ledger = let a = c.args in ledger a.book (columns_held a.columns.now) in
-    reads_built heard c.args.strike c.args.expiry _ _ _ c.in_err-lengths.ensures.builds (search rules)
+    reads_built heard c.args.strike c.args.expiry _ _ _ (rw c.quotes.ensures at c.in_err-lengths.ensures.builds) (search rules)
 
 pub returns : goal.returns
 unfolding of_bits round read_of
 returns c =
     let heard : Ledger = let a = c.args in ledger a.book (columns_held a.columns.now) in
-    reads_built heard c.args.strike c.args.expiry _ _ _ c.in_ok-lengths.ensures.builds (search rules)
+    reads_built heard c.args.strike c.args.expiry _ _ _ (rw c.quotes.ensures at c.in_ok-lengths.ensures.builds) (search rules)

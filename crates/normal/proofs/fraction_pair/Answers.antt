@@ -1,7 +1,8 @@
 use Rattle.std.proofs.Common.{◌≡◌, ℕ, suc, ◌-◌, ◌≤◌, refl, arith}
-use lib.Ieee.{Float, of_bits, round, of_int}
+use lib.Ieee.{Float}
 use Rattle.floats.specs.Operators.{decimal, ◌⊕◌, ◌⊘◌}
 use Rattle.gauss.specs.Erfc.{fraction, levels}
+use Rattle.normal.proofs.Definitions.{opened}
 use Rattle.normal.proofs.fraction_pair.Goals as goal
 
 next : (v c : Float) (j : ℕ) → 1 ≤ j → j ≤ 60 → c ≡ fraction v (levels - j) → v ⊕ decimal j 1 ⊘ decimal 2 1 ⊘ c ≡ fraction v (levels - (j - 1))
@@ -16,13 +17,8 @@ unfolding fraction
 loop-j-init c = (refl, refl)
 
 pub loop-j-preserved : goal.loop-j-preserved
-unfolding of_bits round of_int
+unfolding opened
 loop-j-preserved c =
     let v = c.args.v in
     let l = c.loop-j in
     (next v.first l.c l.j (omega arith) (omega arith) l.invariant.0, next v.second l.d l.j (omega arith) (omega arith) l.invariant.1)
-
-pub returns : goal.returns
-returns c =
-    let e : c.loop-j.j ≡ 0 = omega arith in
-    simp (c.new.ensures, c.loop-j.invariant.0, c.loop-j.invariant.1, e)

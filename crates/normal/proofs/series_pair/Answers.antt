@@ -1,9 +1,10 @@
 use Rattle.std.proofs.Common.{◌≡◌, ℕ, ◌+◌, ◌*◌, ◌<◌, Bool, true, refl, ap, ◌∙◌, arith}
-use lib.Ieee.{Float, of_bits, round, of_int}
+use lib.Ieee.{Float}
 use Rattle.floats.specs.Operators.{decimal, ◌⊕◌, ◌⊗◌, ◌⊘◌}
 use Rattle.gauss.specs.Erfc.{series, terms}
 use Rattle.gauss.specs.Steps.{settled}
 use Rattle.gauss.proofs.Later.{next_term_lem, next_sum, last_sum}
+use Rattle.normal.proofs.Definitions.{opened}
 use Rattle.normal.specs.declared.Series.{Series}
 use Rattle.normal.specs.Pairs.{summed}
 use Rattle.normal.proofs.series_pair.Goals as goal
@@ -30,7 +31,7 @@ unfolding series
 loop-k-init c = (c.new-a.ensures, c.new-b.ensures)
 
 pub returns-then-is_settled-2 : goal.returns-then-is_settled-2
-unfolding of_bits round of_int
+unfolding opened
 returns-then-is_settled-2 c =
     let v = c.args.v in
     let l = c.loop-k in
@@ -40,13 +41,8 @@ returns-then-is_settled-2 c =
     simp (c.new.ensures, p, q)
 
 pub loop-k-preserved : goal.loop-k-preserved
-unfolding of_bits round of_int
+unfolding opened
 loop-k-preserved c =
     let v = c.args.v in
     let l = c.loop-k in
     (next v.first l.k l.a _ l.invariant.0 c.step-next_a.ensures, next v.second l.k l.b _ l.invariant.1 c.step-next_b.ensures)
-
-pub returns : goal.returns
-returns c =
-    let e : c.loop-k.k ≡ 40 = omega arith in
-    simp (c.new-2.ensures, c.loop-k.invariant.0, c.loop-k.invariant.1, e)

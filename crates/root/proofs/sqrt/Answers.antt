@@ -1,13 +1,11 @@
 -- `root::sqrt`: `exceptional` leaves a float above 0. Its digits, with an even exponent, stand under the root; the root of these, rounded, is the
 -- definition's (Squares), and that this is the nearest is Nearest's law. Assumes nothing.
 use Rattle.std.specs.Prelude.{if◌then◌else◌}
-use Rattle.std.proofs.Common.{◌≡◌, refl, sym, ap, ◌∙◌, subst, Bool, true, false, not, T, eqb, ℕ, zero, suc, ◌+◌, ◌*◌, ◌/◌, ◌%◌, ◌^◌, ◌≤◌, ◌<◌, arith}
+use Rattle.std.proofs.Common.{◌≡◌, sym, ap, ◌∙◌, subst, Bool, true, not, T, eqb, ℕ, ◌+◌, ◌*◌, ◌/◌, ◌%◌, ◌^◌, ◌≤◌, ◌<◌, arith}
 use borrow.Author.Tests.{eq-eqb, eqb-true}
-use lib.Ieee.{Float, nan, inf, fin, binary64, fits, of_bits, nan_bits, is_nan, eq, div, size, round}
+use lib.Ieee.{Float, binary64, fits, of_bits, nan_bits, size}
 use lib.Ieee.Positive.{positive}
-use Rattle.floats.proofs.Signs.{O, infinity, Negative, Zero, nan_of, is_negative, is_zero, is_infinity, is_positive}
 use Rattle.floats.proofs.Tests.{by, clash, holds}
-use Rattle.floats.specs.Operators.{◌≺◌}
 use Rattle.floats.specs.Wholes.{units_of}
 use Rattle.floats.specs.Digits.{Digits, parts_of}
 use Rattle.floats.specs.declared.Parts.{Parts}

@@ -26,7 +26,7 @@ not_21 s error h e =
 
 pub returns-then-is_unusable : goal.returns-then-is_unusable
 unfolding outcome outcome_of_implied feed feed_number first
-returns-then-is_unusable c = let t = sym c.is_unusable.ensures ∙ c.if-is_unusable.true in simp t
+returns-then-is_unusable c = let t = sym c.is_unusable.ensures ∙ c.if-is_unusable.true in simp (t, c.into.ensures)
 
 pub overflow_add-evaluations : goal.overflow_add-evaluations
 overflow_add-evaluations c = omega (arith, (usable c.args.s (sym c.is_unusable.ensures ∙ c.if-is_unusable.false)).evaluations)

@@ -2,8 +2,8 @@
 use Rattle.std.proofs.lemmas.Result.{err_from_is_err_and}
 use Rattle.limits.proofs.Refusals.{some}
 use Rattle.chart.proofs.Builds as builds
-use Rattle.chart.proofs.Builds.{Cut}
 use Rattle.admission.specs.Lent.{columns_in, buffers_in}
+use Rattle.surface.proofs.Building.{all_above, cut, axes_refused, accepted, built}
 use mathlib.Core.Path.{sym, ◌∙◌}
 use native.Mathlib.Omega.{arith}
 use Rattle.surface.proofs.build.Goals as goal
@@ -15,47 +15,49 @@ returns-in_err-check_quotes-clause-builds c =
     rw (p.1, p.2)
     (builds.quotes_refused (columns_in c.args.quotes.now) c.args.count (buffers_in c.args.buffers.now) _ c.is_small.ensures _ why.ensures (some why.field-0.0))
 
-pub make_axis-columns-requires : goal.make_axis-columns-requires
-make_axis-columns-requires c =
-    let C : Cut (columns_in c.args.quotes.now) c.args.count (buffers_in c.args.buffers.now) (columns_in c.first-quotes.result) =
-    record { small = _; is = c.is_small.ensures; passed = c.in_ok-check_quotes.ensures; first = c.first-quotes.ensures } in
-    (omega (arith, builds.few C, builds.strikes_cut C), builds.strikes_above_zero C)
+pub invariant_of-axis : goal.invariant_of-axis
+invariant_of-axis c =
+    let C = cut c.is_small.ensures c.in_ok-check_quotes.ensures c.first-quotes.ensures in
+    record { few = omega (arith, builds.few C, builds.strikes_cut C); above_zero = all_above _ (builds.strikes_above_zero C) }
 
-pub make_axis-rows-requires : goal.make_axis-rows-requires
-make_axis-rows-requires c =
-    let C : Cut (columns_in c.args.quotes.now) c.args.count (buffers_in c.args.buffers.now) (columns_in c.first-quotes.result) =
-    record { small = _; is = c.is_small.ensures; passed = c.in_ok-check_quotes.ensures; first = c.first-quotes.ensures } in
-    (omega (arith, builds.few C, builds.expiries_cut C), builds.expiries_above_zero C)
+pub invariant_of-axis-2 : goal.invariant_of-axis-2
+invariant_of-axis-2 c =
+    let C = cut c.is_small.ensures c.in_ok-check_quotes.ensures c.first-quotes.ensures in
+    record { few = omega (arith, builds.few C, builds.expiries_cut C); above_zero = all_above _ (builds.expiries_above_zero C) }
 
 pub returns-in_err-check_axes-clause-builds : goal.returns-in_err-check_axes-clause-builds
 returns-in_err-check_axes-clause-builds c =
-    let C : Cut (columns_in c.args.quotes.now) c.args.count (buffers_in c.args.buffers.now) (columns_in c.first-quotes.result) =
-    record { small = _; is = c.is_small.ensures; passed = c.in_ok-check_quotes.ensures; first = c.first-quotes.ensures } in
-    let K = c.make_axis-columns.ensures in
-    let T = c.make_axis-rows.ensures in
+    let C = cut c.is_small.ensures c.in_ok-check_quotes.ensures c.first-quotes.ensures in
     let p = err_from_is_err_and c.from_residual-in_err-check_axes.result c.from_residual-in_err-check_axes.ensures.1 in
     let why = c.in_err-check_axes in
-    rw (p.1, p.2) (builds.axes_refused C _ _ _ _ K.1 T.1 K.0 T.0 _ why.ensures (some why.field-0.0))
+    rw (p.1, p.2)
+    (axes_refused C c.axis-strikes.ensures c.axis-expiries.ensures c.len.ensures.value c.len-2.ensures.value _ why.ensures (some why.field-0.0))
 
-pub write-requires-clause-one_length : goal.write-requires-clause-one_length
-write-requires-clause-one_length c =
-    let C : Cut (columns_in c.args.quotes.now) c.args.count (buffers_in c.args.buffers.now) (columns_in c.first-quotes.result) =
-    record { small = _; is = c.is_small.ensures; passed = c.in_ok-check_quotes.ensures; first = c.first-quotes.ensures } in
+pub invariant_of-placed : goal.invariant_of-placed
+invariant_of-placed c =
+    let C = cut c.is_small.ensures c.in_ok-check_quotes.ensures c.first-quotes.ensures in
+    let k = c.as_slice.ensures.value ∙ c.axis-strikes.ensures in
+    let e = c.as_slice-2.ensures.value ∙ c.axis-expiries.ensures in
+    let A = accepted C k e (rw c.as_slice.ensures.value c.len.ensures.value) (rw c.as_slice-2.ensures.value c.len-2.ensures.value) c.in_ok-check_axes.ensures in
     let n = builds.strikes_cut C in
-    record { expiries = builds.expiries_cut C ∙ sym n; volatilities = builds.volatilities_cut C ∙ sym n }
+    record {
+      one_length = (builds.expiries_cut C ∙ sym n, builds.volatilities_cut C ∙ sym n);
+      few = omega (arith, builds.few C, n);
+      ranged = A.ranged;
+      narrow = A.narrow;
+      low = A.low;
+      strikes_made = A.strikes;
+      expiries_made = A.expiries;
+    }
 
-pub write-requires-clause-accepted : goal.write-requires-clause-accepted
-write-requires-clause-accepted c =
-    let C : Cut (columns_in c.args.quotes.now) c.args.count (buffers_in c.args.buffers.now) (columns_in c.first-quotes.result) =
-    record { small = _; is = c.is_small.ensures; passed = c.in_ok-check_quotes.ensures; first = c.first-quotes.ensures } in
-    let K = c.make_axis-columns.ensures in
-    let T = c.make_axis-rows.ensures in
-    builds.written C _ _ _ _ K.1 T.1 K.0 T.0 c.in_ok-check_axes.ensures
+pub write-requires : goal.write-requires
+write-requires c =
+    let C = cut c.is_small.ensures c.in_ok-check_quotes.ensures c.first-quotes.ensures in
+    let A = accepted C c.axis-strikes.ensures c.axis-expiries.ensures c.len.ensures.value c.len-2.ensures.value c.in_ok-check_axes.ensures in
+    (A.long_strikes, A.long_expiries, A.long_grid, A.long_counts)
 
 pub returns-clause-builds : goal.returns-clause-builds
 returns-clause-builds c =
-    let C : Cut (columns_in c.args.quotes.now) c.args.count (buffers_in c.args.buffers.now) (columns_in c.first-quotes.result) =
-    record { small = _; is = c.is_small.ensures; passed = c.in_ok-check_quotes.ensures; first = c.first-quotes.ensures } in
-    let K = c.make_axis-columns.ensures in
-    let T = c.make_axis-rows.ensures in
-    builds.built C _ _ _ _ K.1 T.1 K.0 T.0 c.in_ok-check_axes.ensures _ c.write.ensures.written
+    let C = cut c.is_small.ensures c.in_ok-check_quotes.ensures c.first-quotes.ensures in
+    built C c.axis-strikes.ensures c.axis-expiries.ensures c.len.ensures.value c.len-2.ensures.value c.in_ok-check_axes.ensures
+    _ _ c.len-3.ensures.value c.len-4.ensures.value _ c.write.ensures.written

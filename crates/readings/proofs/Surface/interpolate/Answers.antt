@@ -4,63 +4,46 @@ use Rattle.limits.proofs.Refusals.{some}
 use Rattle.limits.proofs.Passing.{passes_check, fails_check}
 use Rattle.grid.proofs.ReadChecks.{passed}
 use Rattle.grid.proofs.ReadCases.{read_refused, read_gap, read_value}
-use Rattle.floats.proofs.Tests.{and_left, and_right}
 use borrow.Author.Tests.{not-false, not-true}
 use mathlib.Core.Path.{refl, sym, ◌∙◌}
 use lib.Seq.{length-take-le}
 use native.Mathlib.Omega.{arith}
 use Rattle.readings.proofs.Surface.interpolate.Goals as goal
 
-pub returns-in_err-check_point : goal.returns-in_err-check_point
-returns-in_err-check_point c =
+pub returns-in_err-axes : goal.returns-in_err-axes
+returns-in_err-axes c =
     let p = err_from_is_err_and c.from_residual.result c.from_residual.ensures.1 in
-    rw (p.1, p.2) (read_refused _ _ _ _ _ _ _ _ c.in_err-check_point.ensures (some c.in_err-check_point.field-0.0))
-
-pub slice_bounds-bracket-end : goal.slice_bounds-bracket-end
-slice_bounds-bracket-end c =
-    let P = passed _ _ _ _ _ _ _ _ c.in_ok-check_point.ensures refl in
-    sym (length-take-le _ _ (omega (arith, P.few_strikes, P.long_strikes)))
-
-pub bracket-s-requires : goal.bracket-s-requires
-bracket-s-requires c =
-    let P = passed _ _ _ _ _ _ _ _ c.in_ok-check_point.ensures refl in
-    and_left _ _ P.axes
-
-pub slice_bounds-bracket-end-2 : goal.slice_bounds-bracket-end-2
-slice_bounds-bracket-end-2 c =
-    let P = passed _ _ _ _ _ _ _ _ c.in_ok-check_point.ensures refl in
-    sym (length-take-le _ _ (omega (arith, P.few_expiries, P.long_expiries)))
-
-pub bracket-e-requires : goal.bracket-e-requires
-bracket-e-requires c =
-    let P = passed _ _ _ _ _ _ _ _ c.in_ok-check_point.ensures refl in
-    and_right _ _ P.axes
+    rw (p.1, p.2) (read_refused _ _ _ _ _ _ _ _ c.in_err-axes.ensures.number (some c.in_err-axes.field-0.0))
 
 pub corner_cells-v-requires : goal.corner_cells-v-requires
 corner_cells-v-requires c =
-    let P = passed _ _ _ _ _ _ _ _ c.in_ok-check_point.ensures refl in
+    let P = passed _ _ _ _ _ _ _ _ c.in_ok-axes.ensures.number refl in
     let S = c.args.self.now in
     let ks = length-take-le S.strikes S.strike_axis.now (omega (arith, P.few_strikes, P.long_strikes)) in
     let ts = length-take-le S.expiries S.expiry_axis.now (omega (arith, P.few_expiries, P.long_expiries)) in
-    let s = c.bracket-s.ensures in
-    let e = c.bracket-e.ensures in (
+    let s = (rw c.in_ok-axes.ensures.in_use.0 at c.bracket-s.ensures.within) in
+    let e = (rw c.in_ok-axes.ensures.in_use.1 at c.bracket-e.ensures.within) in (
       P.long_grid,
+      omega (arith, P.few_strikes, ks, s.0),
       omega (arith, P.few_strikes, ks, s.1),
-      omega (arith, P.few_strikes, ks, s.2),
+      omega (arith, P.few_expiries, ts, e.0),
       omega (arith, P.few_expiries, ts, e.1),
-      omega (arith, P.few_expiries, ts, e.2),
     )
 
 pub returns-in_err-check : goal.returns-in_err-check
 returns-in_err-check c =
     let p = err_from_is_err_and c.from_residual-in_err-check.result c.from_residual-in_err-check.ensures.1 in
-    let P = passed _ _ _ _ _ _ _ _ c.in_ok-check_point.ensures refl in
+    let P = passed _ _ _ _ _ _ _ _ c.in_ok-axes.ensures.number refl in
+    let s = (rw c.in_ok-axes.ensures.in_use.0 at c.bracket-s.ensures.value) in
+    let e = (rw c.in_ok-axes.ensures.in_use.1 at c.bracket-e.ensures.value) in
     let failed = fails_check _ _ _ _ c.in_err-check.ensures in
     let gap = sym c.has_gap.ensures ∙ not-false _ failed.0 in
-    rw (p.1, p.2, failed.1) (read_gap _ _ _ _ _ _ _ P _ _ _ c.bracket-s.ensures.0 c.bracket-e.ensures.0 c.corner_cells-v.ensures gap)
+    rw (p.1, p.2, failed.1) (read_gap _ _ _ _ _ _ _ P _ _ _ s e c.corner_cells-v.ensures gap)
 
 pub returns : goal.returns
 returns c =
-    let P = passed _ _ _ _ _ _ _ _ c.in_ok-check_point.ensures refl in
+    let P = passed _ _ _ _ _ _ _ _ c.in_ok-axes.ensures.number refl in
+    let s = (rw c.in_ok-axes.ensures.in_use.0 at c.bracket-s.ensures.value) in
+    let e = (rw c.in_ok-axes.ensures.in_use.1 at c.bracket-e.ensures.value) in
     let full = sym c.has_gap.ensures ∙ not-true _ (passes_check _ _ _ _ c.in_ok-check.ensures) in
-    read_value _ _ _ _ _ _ _ P _ _ _ c.bracket-s.ensures.0 c.bracket-e.ensures.0 c.corner_cells-v.ensures _ full c.bilinear.ensures
+    read_value _ _ _ _ _ _ _ P _ _ _ s e c.corner_cells-v.ensures _ full c.bilinear.ensures

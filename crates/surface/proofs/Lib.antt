@@ -1,0 +1,7 @@
+pub mod Building
+pub mod Filed
+pub mod Halving
+pub mod Held
+pub mod Placing
+pub mod Sorting
+pub mod Thinning

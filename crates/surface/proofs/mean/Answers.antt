@@ -1,8 +1,0 @@
--- `surface::mean`: the count of at most 32 bits is a float. Assumes nothing.
-use mathlib.Core.Path.{refl}
-use lib.Ieee.{of_int}
-use Rattle.surface.proofs.mean.Goals as goal
-
-pub returns : goal.returns
-unfolding of_int
-returns c = refl
