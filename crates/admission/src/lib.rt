@@ -44,6 +44,7 @@ impl<'a> Quotes<'a> {
     }
 }
 
+// readings cuts its axes so too: one function for both crates would be public, with a contract and an edit, for one line.
 #[tactic(auto, using(std::proofs::lemmas::List::take_min))]
 fn front<'a>(column: &'a [f64], n: usize) -> &'a [f64]
     ensures { result.now ≡ take n column.now }
@@ -69,8 +70,8 @@ fn are_quotes(quotes: &Quotes<'_>) -> bool
         .all(|((strike, expiry), volatility)| is_quote(*strike, *expiry, *volatility))
 }
 
-// 1, 2 and 15: what can be said before there are axes. `small` is whether 15 holds, of the buffers. An entry is read only where the columns have it, so 1, and
-// 2 of the number kept, are told first.
+// 1, 2 and 15: what can be said before there are axes. `small` is whether 15 holds: a flag and no buffers, since this call never asked for any.
+// An entry is read only where the columns have it, so 1, and 2 of the number kept, are told first.
 #[tactic(auto, unfolding(chart::specs::Quotes::is_short, chart::specs::Build::is_wrong, limits::specs::Checks::first))]
 pub fn check_quotes(quotes: &Quotes<'_>, kept: u64, small: bool) -> Result<(), Refusal>
     ensures { number_in result ≡ number_by (columns_in quotes.now) kept small none }

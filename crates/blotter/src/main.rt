@@ -262,6 +262,7 @@ fn main(rt: HostRuntime) {
         lengths: Lengths::default(),
     };
     if let Err(failure) = serve(rt.stdin(), &mut blotter) {
+        // No `Display`: the text is bytes, for one write.
         let message: &[u8] = match failure {
             Failure::Read => b"blotter: cannot read\n",
             Failure::Write => b"blotter: cannot write\n",

@@ -79,8 +79,8 @@ fn horner(table: &[f64], x: f64) -> f64
     p
 }
 
-// The largest whole number not above t, by a cut and a test. A cut of `t.floor()` was tried, and proved: the eight trays of docs/PERFORMANCE.md got
-// slower by 4.7 to 5.3 %, and none may by more than 5 %.
+// The largest whole number not above t, by a cut and a test. A cut of `t.floor()` was tried, and proved: of trays as docs/PERFORMANCE.md has them
+// some got slower by 5.3 %, and none may by more than 5 %.
 fn floor(t: f64) -> i64
     requires { Small t }
     ensures { result ≡ floor t }

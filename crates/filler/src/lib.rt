@@ -25,8 +25,8 @@ fn forward_pass(row: &mut [f64])
     }
 }
 
-// From the right, by an index. Two other forms were tried. Of a loop over `row.iter_mut().rev()` the proof knows what it yielded, not what the cells become:
-// that proof did not close. The forward pass over the row turned round proved, but a grid of 2,048 took 9.3 µs, by an index 7.1: over the 5 % more allowed.
+// From the right, by an index. A loop over `row.iter_mut().rev()` was tried: the proof knows what it yielded, not what the cells become, and did not close. The
+// forward pass over the row turned round is no plainer: it turns each row twice, and a grid of 2,048 took 9.3 µs so, by an index 7.1.
 fn backward_pass(row: &mut [f64])
     ensures { row.new ≡ backward row.old }
 {
@@ -103,7 +103,7 @@ impl Lent<'_> {
     }
 }
 
-// Fills the gaps of any grid: rows, then columns.
+// Fills the gaps of any grid: rows, then columns. The grid and how much of it is in use come as the C interface lends them: 2 and 15 are told of all three.
 #[tactic(auto, unfolding(gaps::specs::Gaps::fill_refusal, limits::specs::Checks::first, gaps::specs::Gaps::answered, limits::specs::Outcome::unless_refused))]
 pub fn fill_gaps(grid: &mut [f64], strikes: usize, expiries: usize) -> Result<(), Refusal>
     ensures { FillsGaps strikes expiries grid.old (fill_outcome result) grid.new }

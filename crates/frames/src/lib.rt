@@ -154,7 +154,7 @@ fn decimal_of(d: u64) -> u8
     b'0' + d as u8
 }
 
-// The 16 digits of a number.
+// The 16 digits of a number, from the last, by an index: a loop over `iter_mut().rev()` would leave open what the digits become (tried in filler).
 #[tactic(auto, unfolding(hexlines::specs::Hex::digits), using(hexlines::proofs::Writing::all_written))]
 pub fn digits_of(n: u64) -> [u8; 16]
     ensures { result ≡ digits 16 n }

@@ -42,7 +42,7 @@ fn show(frame: Option<Frame>) {
     }
 }
 
-// Shows each line that the chunk ends, and keeps what it begins.
+// Shows each line that the chunk ends, and keeps what it begins. The next line is taken from the place where the last ended, as `take_line` tells it.
 fn take_chunk(mut line: Line, chunk: &[u8]) -> Line {
     let mut from = 0;
     for _ in 0..streams::count_lines(chunk) {

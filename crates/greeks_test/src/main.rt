@@ -40,6 +40,7 @@ fn params(inputs: [u64; 5], letter: u8) -> OptionParams {
         time_to_expiry: frames::float_of(expiry),
         risk_free_rate: frames::float_of(rate),
         volatility: frames::float_of(volatility),
+        // No `TryFrom`: neither type is of this crate.
         option_type: match letter {
             b'P' => OptionType::Put,
             _ => OptionType::Call,
@@ -188,7 +189,7 @@ fn section() -> bool {
 }
 
 fn main() {
-    // The loop has an end that no input comes to.
+    // Nothing says that an input ends, so the turns are counted.
     for _ in 0..1000 {
         if !section() {
             return;

@@ -30,7 +30,7 @@ fn open_book(opening: Opening) -> Said
     }
 }
 
-// Builds from nothing, and reads what was built.
+// Builds from nothing, and reads what was built. Strike and expiry are two floats here and in a frame, as the Rust's `interpolate` takes them.
 fn read_surface(
     book: Book,
     columns: &QuoteColumns<'_>,

@@ -1,6 +1,7 @@
 // The library for hosts: the calls of the crates below under C names, on numbers and lent memory. A call returns 0, or document 01's number.
 // A slice is passed as a pointer and then its length; a `&mut` to a number or to an array, as a pointer. The C interface needs what goes together elsewhere,
-// an option, an opening, offers and their answers, columns and buffers, as parameters of their own; an answer's number and its values likewise.
+// an option, an opening, a surface, offers and their answers, columns and buffers, as parameters of their own; an answer's number and its values likewise.
+// Each call makes their struct: a function for that would take the same parameters.
 #![tactic(auto)]
 
 ghost use Rattle.std.specs.Prelude.{◌≡◌};

@@ -100,7 +100,7 @@ fn series_pair(v: Pair) -> Pair
     Pair::new(a.sum, b.sum)
 }
 
-// c of two fractions after their 60 rounds, in one loop.
+// c of two fractions after their 60 rounds, in one loop. A variable each: a struct with one line of a round would be no plainer.
 fn fraction_pair(v: Pair) -> Pair
     ensures { result ≡ both (λ v. fraction v levels) v.first v.second }
 {

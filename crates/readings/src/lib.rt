@@ -176,7 +176,7 @@ impl<'a> Surface<'a> {
             .unwrap_or(self.strike_axis)
     }
 
-    // Likewise. A function for both would take a slice with its count.
+    // Likewise. A function for both, and for the columns of admission, would take a slice with its count, for one line.
     pub fn expiries_in_use(&self) -> &'a [f64]
         ensures { result.now ≡ expiries_of self.now }
     {
@@ -217,6 +217,7 @@ impl<'a> Surface<'a> {
         Ok(bilinear(v, s.fraction, e.fraction))
     }
 
+    // Not-a-number where it has none, as at `nearest_strike`.
     fn middle(&self) -> f64
         ensures { result ≡ middle_strike self.now.strike_axis.now self.now.strikes }
     {

@@ -177,6 +177,7 @@ fn judge_function<F: Fn(f64) -> f64>(words: &mut Words<'_>, f: F) -> bool
     answers(words, &[bits_of(value)])
 }
 
+// 0 for a call. No `TryFrom`: neither type is of this crate.
 fn option_type(words: &mut Words<'_>) -> OptionType {
     match words.word() {
         0 => OptionType::Call,
@@ -206,9 +207,13 @@ fn priced_option(words: &mut Words<'_>) -> OptionParams {
     }
 }
 
+fn judge_value(words: &mut Words<'_>, answer: Result<f64, Refusal>) -> bool {
+    answers(words, &[number_of(answer), bits_of(answer.unwrap_or(0.0))])
+}
+
 fn judge_price(words: &mut Words<'_>) -> bool {
     let price = greeks::bsm_price(priced_option(words));
-    answers(words, &[number_of(price), bits_of(price.unwrap_or(0.0))])
+    judge_value(words, price)
 }
 
 fn judge_greeks(words: &mut Words<'_>) -> bool {
@@ -276,13 +281,6 @@ fn judge_axis(words: &mut Words<'_>, axis: &[f64]) -> bool {
         Some(x) => answers(words, &[bits_of(*x)]),
         None => false,
     }
-}
-
-fn judge_reading(words: &mut Words<'_>, reading: Result<f64, Refusal>) -> bool {
-    answers(
-        words,
-        &[number_of(reading), bits_of(reading.unwrap_or(0.0))],
-    )
 }
 
 impl Sheet {
@@ -364,12 +362,12 @@ impl Sheet {
     fn judge_read(&self, words: &mut Words<'_>) -> bool {
         let strike = words.float();
         let expiry = words.float();
-        judge_reading(words, self.surface().interpolate(strike, expiry))
+        judge_value(words, self.surface().interpolate(strike, expiry))
     }
 
     fn judge_middle(&self, words: &mut Words<'_>) -> bool {
         let expiry = words.float();
-        judge_reading(words, self.surface().middle_strike(expiry))
+        judge_value(words, self.surface().middle_strike(expiry))
     }
 }
 

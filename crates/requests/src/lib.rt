@@ -87,7 +87,7 @@ fn money(words: &[u64]) -> Option<Request>
     })
 }
 
-// A kind's word: 0 for a call, 1 for a put.
+// A kind's word: 0 for a call, 1 for a put. No `TryFrom`: neither type is of this crate.
 fn kind(word: u64) -> Option<OptionType>
     ensures { result ≡ (if ltb 1 word then None else Some (kind_of (eqb word 1))) }
 {

@@ -1,61 +1,14 @@
 // An axis of the values of a column, and a value's place on it.
-ghost use Rattle.std.specs.Prelude.{◌≡◌, Bool, true, ◌+◌, ◌-◌, ◌≤◌, ◌<◌, T, All, length, get_or, Float};
-ghost use Rattle.std.specs.Float.{nan};
+ghost use Rattle.std.specs.Prelude.{◌≡◌, ◌≤◌, T, All, length};
 ghost use Rattle.std.specs.Float.Ieee.Positive.{positive};
-ghost use Rattle.floats.specs.Operators.{◌≺◌};
-ghost use Rattle.grid.specs.Search.{first_where};
-ghost use Rattle.arrayvec.specs.ArrayVec.{array_vec_len};
-ghost use Rattle.chart.specs.Axis.{insert, thinned, axis, place};
-ghost use Rattle.chart.specs.Steps.{Alike, Ascending, reaches, OnAxis};
+ghost use Rattle.chart.specs.Axis.{sort, thinned, axis, place};
+ghost use Rattle.chart.specs.Steps.{reaches, OnAxis};
 
 use arrayvec::ArrayVec;
+use std::cmp::OrderedFloat;
 
 // Values of a column: a build reads 1,024 at most, and memory is fixed.
 pub(crate) type Values = ArrayVec<f64, 1024>;
-
-// A value above zero: what tests equal to it is that value.
-#[derive(Clone, Copy)]
-struct Positive {
-    value: f64,
-    ghost above_zero: { T (positive value) },
-}
-
-impl Positive {
-    // The index of the first value above this one, or the length.
-    fn first_above(self, values: &[f64]) -> usize
-        requires { Ascending values.now }
-        ensures { result ≡ first_where (λ y. self.value ≺ y) values.now }
-    {
-        values.partition_point(|y| !(self.value < *y))
-    }
-
-    // Whether y is this value.
-    fn is(self, y: f64) -> bool
-        ensures { result ≡ true → y ≡ self.value }
-    {
-        y == self.value
-    }
-
-    // Whether this value stands before place p.
-    fn stands(self, values: &[f64], p: usize) -> bool
-        requires { p ≤ length values.now }
-        ensures { result ≡ true → (0 < p) × (get_or values.now (p - 1) nan ≡ self.value) }
-    {
-        p > 0 && self.is(values[p - 1])
-    }
-
-    // Puts this value before the first one above it, where it does not stand yet.
-    fn insert_into(self, values: &mut Values)
-        requires { (array_vec_len values.old < 1024) × Ascending values.old.items }
-        ensures { (array_vec_len values.new ≤ array_vec_len values.old + 1) × Ascending values.new.items
-            × Alike values.new.items (insert self.value values.old.items) }
-    {
-        let p = self.first_above(values.as_slice());
-        if !self.stands(values.as_slice(), p) {
-            values.insert(p, self.value);
-        }
-    }
-}
 
 // A column of a build: values above zero, 1,024 of them at most.
 #[derive(Clone, Copy)]
@@ -66,25 +19,22 @@ pub(crate) struct Column<'a> {
 }
 
 impl Column<'_> {
-    // Its values in order, each once: by insertion, as the definition sorts, where a value that stands already is left out.
-    // std's `sort_unstable_by` sorted a copy in a quarter of the time (1,000 values of 40 strikes: 9 µs for 40). Its proof wants an order that is
-    // total on all floats, and that values have one sorted order alone: more than this loop says, and a build is no slower than it was.
-    fn sorted(&self) -> Values
-        ensures { thinned result.items ≡ axis self.now.values.now }
-    {
-        let mut values = Values::new();
-        for x in self.values {
-            Positive { value: *x }.insert_into(&mut values);
-        }
-        values
-    }
-
     // The axis of its values.
     pub(crate) fn axis(&self) -> Values
         ensures { result.items ≡ axis self.now.values.now }
     {
-        thinned(&self.sorted())
+        thinned(&sorted(self.values))
     }
+}
+
+// The values in order. Above zero no two that differ test equal, so std's sort gives what the definition's insertion gives.
+fn sorted(values: &[f64]) -> Values
+    requires { (length values.now ≤ 1024) × All (λ x. T (positive x)) values.now }
+    ensures { result.items ≡ sort values.now }
+{
+    let mut sorted = Values::try_from(values).unwrap();
+    sorted.sort_unstable_by_key(|x| OrderedFloat(*x));
+    sorted
 }
 
 // Sorted values without each that is too near the last one kept.

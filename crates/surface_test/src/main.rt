@@ -131,14 +131,14 @@ impl Buffers {
     fn say_cells(&self, lengths: Lengths) {
         let rows = self.grid.chunks(64).zip(self.counts.chunks(64));
         for (row, counts) in rows.take(lengths.expiries) {
-            say_row(row, counts, lengths.strikes);
+            say_row(row.get(..lengths.strikes).unwrap_or(row), counts);
         }
     }
 }
 
-// The first cells of a row, each with its count.
-fn say_row(row: &[f64], counts: &[u64], strikes: usize) {
-    for (x, count) in row.iter().zip(counts).take(strikes) {
+// The cells of a row, each with its count.
+fn say_row(row: &[f64], counts: &[u64]) {
+    for (x, count) in row.iter().zip(counts) {
         say_all(&[bits_of(*x), *count]);
     }
 }

@@ -68,7 +68,8 @@ fn check_own(o: Offer) -> Result<(), Refusal>
     check(!bad_volatility(o.terms), Refusal::Volatility)
 }
 
-// 1 to 4, then the offer's own. Whether 1 holds is handed in, here and below: the columns are book's, which this crate does not see.
+// 1 to 4, then the offer's own. Whether 1 holds is handed in, here and below: the columns are book's, which this crate does not
+// see. Record, flag and offer stay three parameters, as `decide` takes them: a struct would be made there to be taken apart.
 #[tactic(auto, unfolding(ledger::specs::Book::offer_refusal, limits::specs::Checks::first))]
 fn check_offer(short: bool, b: Book, o: Offer) -> Result<(), Refusal>
     ensures { number_in result ≡ offer_refusal short b o }
