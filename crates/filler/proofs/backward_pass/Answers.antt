@@ -1,4 +1,4 @@
-use Rattle.gaps.proofs.Passes.{backward_start, backward_step, backward_end}
+use Rattle.gaps.proofs.Passes.{backward_start, backward_step}
 use Prim.Native.Nat.{suc, ◌-◌}
 use mathlib.Core.Path.{◌≡◌}
 use native.Mathlib.Omega.{arith}
@@ -11,6 +11,3 @@ pub loop-j-preserved : goal.loop-j-preserved
 loop-j-preserved c =
     let e : suc (c.loop-j.j - 1) ≡ c.loop-j.j = omega arith in
     backward_step _ _ _ _ _ _ e c.loop-j.invariant c.filled-last.ensures
-
-pub returns : goal.returns
-returns c = backward_end _ _ _ _ (omega arith) c.loop-j.invariant

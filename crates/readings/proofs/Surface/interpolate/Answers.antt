@@ -6,29 +6,12 @@ use Rattle.grid.proofs.ReadChecks.{passed}
 use Rattle.grid.proofs.ReadCases.{read_refused, read_gap, read_value}
 use borrow.Author.Tests.{not-false, not-true}
 use mathlib.Core.Path.{refl, sym, ◌∙◌}
-use lib.Seq.{length-take-le}
-use native.Mathlib.Omega.{arith}
 use Rattle.readings.proofs.Surface.interpolate.Goals as goal
 
 pub returns-in_err-axes : goal.returns-in_err-axes
 returns-in_err-axes c =
     let p = err_from_is_err_and c.from_residual.result c.from_residual.ensures.1 in
     rw (p.1, p.2) (read_refused _ _ _ _ _ _ _ _ c.in_err-axes.ensures.number (some c.in_err-axes.field-0.0))
-
-pub corner_cells-v-requires : goal.corner_cells-v-requires
-corner_cells-v-requires c =
-    let P = passed _ _ _ _ _ _ _ _ c.in_ok-axes.ensures.number refl in
-    let S = c.args.self.now in
-    let ks = length-take-le S.strikes S.strike_axis.now (omega (arith, P.few_strikes, P.long_strikes)) in
-    let ts = length-take-le S.expiries S.expiry_axis.now (omega (arith, P.few_expiries, P.long_expiries)) in
-    let s = (rw c.in_ok-axes.ensures.in_use.0 at c.bracket-s.ensures.within) in
-    let e = (rw c.in_ok-axes.ensures.in_use.1 at c.bracket-e.ensures.within) in (
-      P.long_grid,
-      omega (arith, P.few_strikes, ks, s.0),
-      omega (arith, P.few_strikes, ks, s.1),
-      omega (arith, P.few_expiries, ts, e.0),
-      omega (arith, P.few_expiries, ts, e.1),
-    )
 
 pub returns-in_err-check : goal.returns-in_err-check
 returns-in_err-check c =
