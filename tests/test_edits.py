@@ -21,9 +21,8 @@ FACTS = {
     'another statement is proved': re.compile(r'expected type\s+`'),
     'numbers at which it fails': re.compile(r'`omega`: the goal does not follow from what it read|the facts known there allow values'),
     'an equation is left open': re.compile(r'give a proof of that as the last argument, `(?:simp|rw|cc)'),
-    'a promise is not proved': re.compile(r'it is not proved that (?:what (?:the function ensures|`[^`]+` requires)|the invariant|a ghost field)|`search` found no proof \(`'),
 }
-# What it says where the text alone no longer fits.
+# What it says where the text alone no longer fits. Of a goal for which it found no proof, it says no more than that: such an edit is listed.
 TEXT = re.compile(r'was not admitted|is not in scope|no field|has no `|no occurrence of|unknown |expects \d+ arguments|cannot be checked')
 REFUSED = 'refused, as it must be'
 

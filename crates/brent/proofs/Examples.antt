@@ -9,14 +9,15 @@ use Rattle.floats.specs.Values.{magnitude, minimum, negative, copysign}
 use Rattle.limits.specs.Ranges.{is_price, within}
 use Rattle.limits.specs.Checks.{first}
 use Rattle.brent.specs.Brent.{reset, swap, tolerance, middle, converged, turned, by_line, by_parabola, interpolation, tries, accepts, steps, step, advance}
+use Rattle.brent.specs.Outcome.{outcome_of_implied}
 use Rattle.brent.specs.Feed.{fresh, refuse, ask, find, start, placed, in_range, is_unusable, is_unbracketed, feed_number, feed}
 use Rattle.brent.specs.Run.{feed_all, run}
 use Rattle.brent.specs.Examples.{Examples, plus, minus, two, three, Next, Interpolations}
 
 pub examples : Examples
 unfolding run feed_all start fresh feed feed_number first placed in_range is_unusable is_unbracketed refuse ask find
-    reset swap tolerance middle converged is_price within magnitude round neg add sub mul lt le eq
-examples = record { refused_12 = refl; found_10 = refl }
+    reset swap tolerance middle converged is_price within magnitude round neg add sub mul lt le eq outcome_of_implied
+examples = record { refused_12 = refl; found_10 = refl; read_12 = refl }
 
 -- ---- the steps of a round, each computed to a float as a fraction, which the decimals then are: two roundings are not compared directly
 abbrev above : ℕ → ℤ → Float

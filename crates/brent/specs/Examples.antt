@@ -1,11 +1,12 @@
 -- Examples of the solver, computed: document 01's two, and the steps of a round.
-use Rattle.std.specs.Prelude.{ℕ, ◌≡◌, [], ◌∷◌, Float}
+use Rattle.std.specs.Prelude.{ℕ, ◌≡◌, [], ◌∷◌, Float, Err}
 use Rattle.std.specs.Float.Ieee.{neg}
 use Rattle.floats.specs.Operators.{decimal, ◌⊖◌}
 use Rattle.limits.specs.Outcome.{done, refused}
+use Rattle.limits.specs.declared.Refusal.TheVariants as why
 use Rattle.brent.specs.declared.Points.{Points}
 use Rattle.brent.specs.Brent.{advance}
-use Rattle.brent.specs.Outcome.{ended, zeros}
+use Rattle.brent.specs.Outcome.{ended, zeros, outcome_of_implied}
 use Rattle.brent.specs.Feed.{over}
 use Rattle.brent.specs.Run.{run}
 
@@ -14,6 +15,8 @@ pub record Examples : Type 0 where
   pub refused_12 : (run (decimal 1 1) (decimal 1 2 ∷ decimal 1 4 ∷ [])).reply ≡ ended (refused 12 (zeros 2)) over
   pub found_10 : (run (decimal 1 1) (decimal 1 2 ∷ decimal 1 1 ∷ [])).reply
       ≡ ended (done (record { volatility = decimal 10 1; error = decimal 0 1; c = decimal 1 1000000; c_error = neg (decimal 1 2); evaluations = 2 })) over
+  -- Such a refusal is read with its evaluations.
+  pub read_12 : outcome_of_implied (Err (record { refusal = why.NotBracketed; evaluations = 2 })) ≡ refused 12 (zeros 2)
 
 -- ---- the steps of a round, at points and errors for which every operation is exact, so that each is told by hand (the quotient of `smallest` alone is
 -- rounded, and its step is the tolerance)

@@ -11,12 +11,17 @@ const STDOUT_FILENO: i32 = 1;
 // A letter, 16 digits and a line feed.
 const LINE: usize = 18;
 
-// The number that follows the letter; 0 where its 16 characters write none.
-fn number(line: &[u8; LINE]) -> u64 {
-    match str::from_utf8(&line[1..17]) {
-        Ok(digits) => u64::from_str_radix(digits, 16).unwrap_or(0),
-        Err(_) => 0,
+// A digit's value, in lower case; any other character counts as 0.
+fn digit(c: u8) -> u64 {
+    match c {
+        b'A'..=b'F' => 0,
+        _ => frames::digit_value(c.to_ascii_uppercase()),
     }
+}
+
+// The number that follows the letter.
+fn number(line: &[u8; LINE]) -> u64 {
+    line[1..17].iter().fold(0, |n, c| (n << 4) | digit(*c))
 }
 
 // Each behind a space.

@@ -11,7 +11,7 @@ pub mod Layouts
 pub mod Sweeping
 pub mod Housing
 pub mod Made
-pub mod Builds
+pub mod Execution
 pub mod Numbers
 pub mod Twins
 pub mod Halves

@@ -2,7 +2,7 @@
 use Prim.Native.Nat.{ℕ, zero, suc, ◌-◌, ◌≤◌, ◌<◌}
 use mathlib.Core.Path.{◌≡◌, refl, sym, ap, ◌∙◌}
 use mathlib.Core.Bool.{true}
-use mathlib.Core.List.{List, [], ◌∷◌}
+use mathlib.Core.List.{List, [], ◌∷◌, ◌++◌}
 use native.Mathlib.Nat.{lt_irrefl}
 use native.Mathlib.Omega.{arith}
 use lib.Dec.{T}
@@ -69,3 +69,19 @@ standing_alike a n p x P h e q s zs =
     let m : p - 1 < n = omega (arith, place_most a n p x h e) in
     let k : get_or (take n a) (p - 1) nan ≡ x = get_or-take n a (p - 1) nan m ∙ s in
     sym (doubled_alike x (no_gap x x P P (omega arith) (omega arith)) (standing x (take n a) (rw e at q) (rw e at k)) zs)
+
+-- a value that comes again right behind itself: the last of those before it is x, and more may have been inserted before them
+again : (x : Float) (ys : List Float) → Doubled x (insert x (insert x ys)) (insert x ys)
+unfolding insert
+again x [] = split (x ≺ x) (λ e. rw e here) (λ e. rw e here)
+again x (y ∷ ys) =
+    split (x ≺ y) (λ e. rw e (split (x ≺ x) (λ f. rw f here) (λ f. rw (f, e) here))) (λ e. rw e (rw e (there (again x ys))))
+
+pub repeated : (before us : List Float) (x : Float) (rest : List Float) → T (positive x) → 0 < length us → get_or us (length us - 1) nan ≡ x
+    → thinned (sorted_into before (us ++ x ∷ rest)) ≡ thinned (sorted_into before (us ++ rest))
+unfolding sorted_into
+repeated before [] x rest p h e = absurd (lt_irrefl 0 h)
+repeated before (u ∷ []) x rest p h e = rw e (doubled_alike x (no_gap x x p p (omega arith) (omega arith)) (again x before) rest)
+repeated before (u ∷ w ∷ us) x rest p h e =
+    let z : length (u ∷ w ∷ us) - 1 ≡ suc (length (w ∷ us) - 1) = omega arith in
+    repeated (insert u before) (w ∷ us) x rest p (omega arith) (sym (ap (λ (n : ℕ). get_or (u ∷ w ∷ us) n nan) z) ∙ e)

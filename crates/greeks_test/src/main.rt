@@ -82,21 +82,21 @@ fn implied<F: Fn(Solution) -> f64>(params: OptionParams, chosen: F) -> Got
     }
 }
 
-// The call of an operation. sigma is the volatility, error its error; other is the opposing point, oerr its error.
+// The call by the first and the third letter of the operation. sigma is the volatility, error its error; other is the opposing point, oerr its error.
 fn answer(operation: &[u8], params: OptionParams) -> Got {
     match operation {
-        b"parit" => Got::from(parity(params)),
-        b"price" => Got::from(greeks::bsm_price(params)),
-        b"sigma" => implied(params, |s| s.volatility),
-        b"error" => implied(params, |s| s.error),
-        b"other" => implied(params, |s| s.c),
-        b"oerr " => implied(params, |s| s.c_error),
-        b"delta" => greek(params, |g| g.delta),
-        b"gamma" => greek(params, |g| g.gamma),
-        b"theta" => greek(params, |g| g.theta),
-        b"rho  " => greek(params, |g| g.rho),
-        b"vega " => greek(params, |g| g.vega),
-        b"vanna" => greek(params, |g| g.vanna),
+        [b'p', _, b'r', ..] => Got::from(parity(params)),
+        [b'p', ..] => Got::from(greeks::bsm_price(params)),
+        [b's', ..] => implied(params, |s| s.volatility),
+        [b'e', ..] => implied(params, |s| s.error),
+        [b'o', _, b'h', ..] => implied(params, |s| s.c),
+        [b'o', ..] => implied(params, |s| s.c_error),
+        [b'd', ..] => greek(params, |g| g.delta),
+        [b'g', ..] => greek(params, |g| g.gamma),
+        [b't', ..] => greek(params, |g| g.theta),
+        [b'r', ..] => greek(params, |g| g.rho),
+        [_, _, b'g', ..] => greek(params, |g| g.vega),
+        [_, _, b'n', ..] => greek(params, |g| g.vanna),
         _ => greek(params, |g| g.volga),
     }
 }
@@ -118,19 +118,16 @@ fn wanted(mark: u8, first: u64, second: u64) -> Wanted {
     }
 }
 
-// A count against its decimal digits.
-fn counted(n: u64, digits: &[u8]) -> bool {
-    match str::from_utf8(digits) {
-        Ok(text) => text.parse() == Ok(n),
-        Err(_) => false,
-    }
+// A count against its two decimal digits.
+fn counted(n: u64, tens: u8, units: u8) -> bool {
+    n / 10 == frames::digit_value(tens) && n % 10 == frames::digit_value(units)
 }
 
 fn agrees(line: &[u8; LINE], got: Got) -> bool {
     let mut words = Words { text: &line[101..] };
     let wanted = wanted(line[8], words.word(), words.word());
-    counted(outcomes::number_of(got.answer), &line[95..97])
-        && counted(got.evaluations, &line[98..100])
+    counted(outcomes::number_of(got.answer), line[95], line[96])
+        && counted(got.evaluations, line[98], line[99])
         && wanted.is_met(outcomes::values_of(got.answer, 0.0))
 }
 
@@ -160,9 +157,7 @@ fn judge(line: &[u8; LINE]) -> bool {
     print_count(outcomes::number_of(got.answer));
     print_count(got.evaluations);
     vectors::print_word(frames::bits_of(outcomes::values_of(got.answer, 0.0)));
-    io::write_all(STDOUT_FILENO, b" ");
-    io::write_all(STDOUT_FILENO, vectors::verdict(agrees));
-    io::write_all(STDOUT_FILENO, b"\n");
+    io::write_all(STDOUT_FILENO, vectors::line_end(agrees).as_slice());
     agrees
 }
 

@@ -5,7 +5,8 @@ use mathlib.Core.Bool.{Bool, true, false, cond}
 use mathlib.Core.List.{List, [], ◌∷◌}
 use native.Mathlib.Nat.{le_of_suc-le-suc}
 use native.Mathlib.Omega.{arith}
-use lib.ListN.{length, get_or}
+use lib.ListN.{length, take, get_or}
+use lib.Seq.{take-length}
 use lib.Ieee.{Float}
 use Rattle.floats.proofs.Tests.{by, split, clash}
 use Rattle.grid.specs.Search.{first_where, AllPass, Rising}
@@ -17,6 +18,10 @@ first_most p [] = omega arith
 first_most p (y ∷ ys) =
     let ih = first_most p ys in
     by (λ (n : ℕ). n ≤ suc (length ys)) (λ (b : Bool). cond b 0 (suc (first_where p ys))) (p y) (λ e. omega arith) (λ e. omega arith)
+
+-- a search over a whole list
+pub look_all : (p : Float → Bool) (a : List Float) → first_where p (take (length a) a) ≡ first_where p a
+look_all p a = rw take-length
 
 -- ---- a search by halves, where of the values after one that passes the test all pass it
 all_at : (p : Float → Bool) (ys : List Float) (i : ℕ) (d : Float) → AllPass p ys → i < length ys → p (get_or ys i d) ≡ true

@@ -1,3 +1,4 @@
+pub mod Fronts
 pub mod First
 pub mod Values
 pub mod Rows

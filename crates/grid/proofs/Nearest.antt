@@ -157,15 +157,6 @@ module _ (spot : Float) where
         let N = subst (λ (i : ℕ). NearestOf spot strikes i l.0) e l.1 in
         subst (λ (n : ℕ). IsNearest spot strikes n) (nearest_only l.0 N) N
 
-    pub leads_end : (i : ℕ) (strike : Float) → is_axis strikes ≡ true → length strikes ≤ i → i ≤ length strikes → Leads i strike
-        → strike ≡ nearest_strike spot strikes
-    unfolding nearest_strike
-    leads_end i strike a h k l =
-        let some = axis_long strikes a in
-        let e : i ≡ length strikes = omega arith in
-        let N = subst (λ (j : ℕ). NearestOf spot strikes j l.at) e (l.leads (omega arith)) in
-        rw (a, ← nearest_only l.at N) l.is
-
     pub nearest_laws : Nearest spot strikes
     unfolding nearest_strike
     nearest_laws =
@@ -177,3 +168,12 @@ module _ (spot : Float) where
           on_axis = λ a n h. axis_inside strikes a n h;
           inside_axis = λ a. rw a (axis_inside strikes a (nearest spot strikes) (nearest_is a).within);
         }
+
+    pub leads_end : (i : ℕ) (strike : Float) → is_axis strikes ≡ true → length strikes ≤ i → i ≤ length strikes → Leads i strike
+        → strike ≡ nearest_strike spot strikes
+    unfolding nearest_strike
+    leads_end i strike a h k l =
+        let some = axis_long strikes a in
+        let e : i ≡ length strikes = omega arith in
+        let N = subst (λ (j : ℕ). NearestOf spot strikes j l.at) e (l.leads (omega arith)) in
+        rw (a, ← nearest_only l.at N) l.is

@@ -1,7 +1,7 @@
 -- What the checks of a read say together: what holds when none does, and that a cell that is not-a-number changes only the last. Assumes nothing.
 use Prim.Native.Nat.{ℕ, zero, suc, ◌≤◌, ◌<◌}
 use mathlib.Core.Path.{◌≡◌, refl, sym, ◌∙◌}
-use mathlib.Core.Bool.{Bool, true, false, not, ◌&&◌, ◌||◌}
+use mathlib.Core.Bool.{Bool, true, false, not, ◌&&◌, ◌||◌, or-false}
 use mathlib.Core.List.{List, [], ◌∷◌}
 use native.Mathlib.Omega.{arith}
 use lib.Dec.{ltb}
@@ -82,6 +82,14 @@ module _ (K E grid : List Float) (strikes expiries : ℕ) (strike expiry : Float
       split outside
       (λ t. rw t (sym (rw t at h)))
       (λ f. rw f (sym (stays rows n (first gap 20 none) (rw f at h) k)))
+
+-- the last two lines, where those before them pass
+pub read_last : (K E grid : List Float) (strikes expiries : ℕ) (strike expiry : Float) → (ltb 64 strikes || ltb 32 expiries) ≡ false
+    → (ltb (length K) 64 || ltb (length E) 32 || ltb (length grid) 2048) ≡ false → (is_axis (take strikes K) && is_axis (take expiries E)) ≡ true
+    → first (not (inside (take strikes K) strike)) 19 (first (not (inside (take expiries E) expiry)) 20 none)
+    ≡ read_refusal K E grid strikes expiries strike expiry false
+unfolding read_refusal first
+read_last K E grid strikes expiries strike expiry a b c = rw (a, b, c, or-false)
 
 -- ---- the numbers
 pub numbered : (K E grid : List Float) (strikes expiries : ℕ) (strike expiry : Float) (gap : Bool) → Numbered K E grid strikes expiries strike expiry gap

@@ -6,6 +6,8 @@ use native.Mathlib.Omega.{arith}
 use native.Mathlib.Numerals.{add-one}
 use lib.ListN.{length, take, drop, set, length-drop}
 use lib.Seq.{take-suc-set, take_all, length-take-le}
+use mir.Val.{Fits}
+use mir.Syntax.{w64}
 use Rattle.grid.specs.Layout.{values}
 
 module _ {X : Type 0} (f : ℕ → X) (n : ℕ) where
@@ -37,14 +39,22 @@ module _ {X : Type 0} (f : ℕ → X) (n : ℕ) where
 pub part_length : {X : Type 0} (a n : ℕ) (l : List X) → a + n ≤ length l → length (take n (drop a l)) ≡ n
 part_length a n l h = length-take-le n (drop a l) (simp length-drop (omega arith))
 
--- a row of `columns` cells at 64 × i lies within a grid of 2,048
+-- a row of `columns` cells at 64 × i lies within a grid of 2,048, and its places fit a machine's number
 pub record RowWithin (i columns : ℕ) : Type 0 where
+  pub start_fits : Fits w64 (64 * i)
+  pub end_fits : Fits w64 (64 * i + columns)
+  pub bytes_fit : Fits w64 (64 * i * 8)
+  pub ordered : 64 * i ≤ 64 * i + columns
   pub within : 64 * i + columns ≤ 2048
   pub width : 64 * i + columns - 64 * i ≡ columns
 
 pub row_within : (i rows columns : ℕ) → i < rows → rows ≤ 32 → columns ≤ 64 → RowWithin i columns
 row_within i rows columns h r w =
     record {
+      start_fits = record { fits = omega arith };
+      end_fits = record { fits = omega arith };
+      bytes_fit = record { fits = omega arith };
+      ordered = omega arith;
       within = omega arith;
       width = omega arith;
     }

@@ -13,3 +13,4 @@ pub mod Teeth
 pub mod Twelve
 pub mod Rows
 pub mod AtMoney
+pub mod Lengths

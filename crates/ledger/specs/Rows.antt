@@ -116,7 +116,8 @@ pub record Rows : Type 0 where
   pub money : (strike volatility : Float) → money_entries (record { strike = strike; volatility = volatility }) ≡ strike ∷ volatility ∷ []
   -- strikes, then expiries
   pub lengths : (strikes expiries : ℕ) → lengths_of (done (record { strikes = strikes; expiries = expiries })) ≡ strikes ∷ expiries ∷ []
-  pub no_lengths : (why : Refusal) → lengths_of (outcome (Err why)) ≡ 0 ∷ 0 ∷ []
+  pub no_lengths : (number : ℕ) → lengths_of (refused number no_lengths) ≡ 0 ∷ 0 ∷ []
+  pub refused_lengths : (why : Refusal) → lengths_of (outcome (Err why)) ≡ 0 ∷ 0 ∷ []
   pub built : (strikes expiries : ℕ) → built_in 0 (strikes ∷ expiries ∷ []) ≡ done (record { strikes = strikes; expiries = expiries })
   pub not_built : (number : ℕ) (lengths : List ℕ) → (number ≡ 0 → ⊥) → built_in number lengths ≡ refused number (record { strikes = 0; expiries = 0 })
   -- kept, refused, heard, evaluations

@@ -3,6 +3,8 @@
 // An answer is written once for all its repetitions in a row, behind how many there are; the end of a tray is written too.
 #![tactic(auto)]
 
+ghost use Rattle.std.specs.Prelude.{◌≤◌};
+
 use book::QuoteColumns;
 use protocol::{Fed, State};
 
@@ -87,7 +89,7 @@ impl Run<'_> {
         let Some((head, piece)) = line.split_first_chunk::<6>() else {
             return;
         };
-        let times = count_of(&head[..5]);
+        let times = count_of(head);
         match head[5] {
             b'.' => self.end_tray(),
             b' ' => self.feed_times(times, &[piece, b"\n"]),
@@ -96,12 +98,17 @@ impl Run<'_> {
     }
 }
 
-// The count that digits write; 0 where they write none.
-fn count_of(digits: &[u8]) -> u64 {
-    match str::from_utf8(digits) {
-        Ok(text) => text.parse().unwrap_or(0),
-        Err(_) => 0,
-    }
+// A character below '0' counts as 0, and one above '9' as 9.
+fn digit(b: u8) -> u64
+    ensures { result ≤ 9 }
+{
+    u64::from(b.clamp(b'0', b'9') - b'0')
+}
+
+// The count that a line starts with.
+fn count_of(head: &[u8; 6]) -> u64 {
+    let high = digit(head[0]) * 10000 + digit(head[1]) * 1000;
+    high + digit(head[2]) * 100 + digit(head[3]) * 10 + digit(head[4])
 }
 
 fn main() {

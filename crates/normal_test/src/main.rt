@@ -10,16 +10,16 @@ const STDOUT_FILENO: i32 = 1;
 // Four letters for the function, a mark, and three words: the input, what is wanted, and the tolerance, or a pair's other argument.
 const LINE: usize = 58;
 
-// The function of a name; 1st and 2nd are the values of a pair, x beside another.
+// The function by the first two letters of its name; 1st and 2nd are the values of a pair, x beside another.
 fn value(name: &[u8], x: f64, other: f64) -> f64 {
     match name {
-        b"1st " => normal::cdf_pair(x, other).first,
-        b"2nd " => normal::cdf_pair(other, x).second,
-        b"sqrt" => root::sqrt(x),
-        b"ln  " => exponential::ln(x),
-        b"pdf " => normal::pdf(x),
-        b"cdf " => normal::cdf(x),
-        b"exp " => exponential::exp(x),
+        [b'1', ..] => normal::cdf_pair(x, other).first,
+        [b'2', ..] => normal::cdf_pair(other, x).second,
+        [b's', ..] => root::sqrt(x),
+        [b'l', ..] => exponential::ln(x),
+        [b'p', ..] => normal::pdf(x),
+        [b'c', ..] => normal::cdf(x),
+        [_, b'x', ..] => exponential::exp(x),
         _ => normal::erfc(x),
     }
 }
@@ -44,9 +44,7 @@ fn judge(line: &[u8; LINE]) -> bool {
     io::write_all(STDOUT_FILENO, &line[..4]);
     vectors::print_word(input);
     vectors::print_word(frames::bits_of(got));
-    io::write_all(STDOUT_FILENO, b" ");
-    io::write_all(STDOUT_FILENO, vectors::verdict(agrees));
-    io::write_all(STDOUT_FILENO, b"\n");
+    io::write_all(STDOUT_FILENO, vectors::line_end(agrees).as_slice());
     agrees
 }
 

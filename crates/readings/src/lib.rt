@@ -34,7 +34,7 @@ fn fraction(lo: f64, hi: f64, x: f64) -> f64
     ensures { result ≡ fraction lo hi x }
 {
     let span = hi - lo;
-    if span.abs() < 1e-15 {
+    if floats::abs(span) < 1e-15 {
         0.0
     } else {
         (x - lo) / span
@@ -44,7 +44,7 @@ fn fraction(lo: f64, hi: f64, x: f64) -> f64
 fn away_from(spot: f64, strike: f64) -> f64
     ensures { result ≡ away_from spot strike }
 {
-    (strike - spot).abs()
+    floats::abs(strike - spot)
 }
 
 // The values of an axis.

@@ -1,5 +1,5 @@
 // One round of Brent's method, as the Rust's `implied_volatility` writes it.
-#![tactic(auto, using(limits::proofs::Float::abs), unfolding(crate::proofs::Definitions::opened))]
+#![tactic(auto, unfolding(crate::proofs::Definitions::opened))]
 
 ghost use Rattle.std.specs.Prelude.{◌≡◌};
 ghost use Rattle.brent.specs.Brent.{reset, swap, tolerance, middle, converged, advance};
@@ -29,7 +29,7 @@ pub fn reset(p: Points) -> Points
 pub fn swap(p: Points) -> Points
     ensures { result ≡ swap p }
 {
-    if p.fc.abs() < p.fb.abs() {
+    if floats::abs(p.fc) < floats::abs(p.fb) {
         Points {
             a: p.b,
             b: p.c,
@@ -47,7 +47,7 @@ pub fn swap(p: Points) -> Points
 fn tolerance(b: f64) -> f64
     ensures { result ≡ tolerance b }
 {
-    2.0 * f64::EPSILON * b.abs() + 0.5 * 0.000001
+    2.0 * f64::EPSILON * floats::abs(b) + 0.5 * 0.000001
 }
 
 fn middle(b: f64, c: f64) -> f64
@@ -59,7 +59,7 @@ fn middle(b: f64, c: f64) -> f64
 pub fn converged(p: Points) -> bool
     ensures { result ≡ converged p }
 {
-    middle(p.b, p.c).abs() <= tolerance(p.b) || p.fb.abs() < 0.000001
+    floats::abs(middle(p.b, p.c)) <= tolerance(p.b) || floats::abs(p.fb) < 0.000001
 }
 
 // The sign of p / q goes to q.
@@ -120,7 +120,7 @@ impl Round {
     fn interpolation(self) -> Ratio
         ensures { result ≡ interpolation self.points self.xm }
     {
-        if (self.points.a - self.points.c).abs() < f64::EPSILON {
+        if floats::abs(self.points.a - self.points.c) < f64::EPSILON {
             self.by_line()
         } else {
             self.by_parabola()
@@ -130,14 +130,15 @@ impl Round {
     fn tries(self) -> bool
         ensures { result ≡ tries self.points self.tol1 }
     {
-        self.points.e.abs() >= self.tol1 && self.points.fa.abs() > self.points.fb.abs()
+        floats::abs(self.points.e) >= self.tol1
+            && floats::abs(self.points.fa) > floats::abs(self.points.fb)
     }
 
     fn accepts(self, r: Ratio) -> bool
         ensures { result ≡ accepts r self.points.e self.tol1 self.xm }
     {
-        let most = 3.0 * self.xm * r.q - (self.tol1 * r.q).abs();
-        2.0 * r.p < floats::min(most, self.points.e.abs() * r.q.abs())
+        let most = 3.0 * self.xm * r.q - floats::abs(self.tol1 * r.q);
+        2.0 * r.p < floats::min(most, floats::abs(self.points.e) * floats::abs(r.q))
     }
 
     // By the interpolation, or half way to c.
@@ -163,7 +164,7 @@ impl Round {
     fn step(self, d: f64) -> f64
         ensures { result ≡ step d self.tol1 self.xm }
     {
-        if d.abs() > self.tol1 {
+        if floats::abs(d) > self.tol1 {
             d
         } else {
             floats::copysign(self.tol1, self.xm)

@@ -1,7 +1,9 @@
 // Rows of numbers made offers, options and the book's record, and answers made rows: which entry is which is ledger/specs/Rows'.
 #![tactic(auto)]
 
-ghost use Rattle.std.specs.Prelude.{◌≡◌, min};
+ghost use Rattle.std.specs.Prelude.{◌≡◌, ℕ, min};
+ghost use Rattle.limits.specs.Outcome.{refused};
+ghost use Rattle.brent.specs.Outcome.{zeros};
 ghost use Rattle.blackscholes.specs.Implied.{outcome_of_implied};
 ghost use Rattle.ledger.specs.Rows.{kind_of, terms_of, offer_of, option_of, numbers_of, evidence_of, shortest, book_in};
 
@@ -68,6 +70,21 @@ pub fn option_of(
     }
 }
 
+// The rows of a refusal by any number, after so many evaluations.
+#[tactic(auto, unfolding(ledger::specs::Rows::numbers_of, brent::specs::Outcome::zeros))]
+pub fn refused_numbers(number: u64, evaluations: u64) -> [u64; 2]
+    ensures { result ≡ numbers_of (refused number (zeros evaluations)) }
+{
+    [number, evaluations]
+}
+
+#[tactic(auto, unfolding(ledger::specs::Rows::evidence_of, brent::specs::Outcome::zeros, limits::proofs::Float::of_bits, limits::proofs::Float::round))]
+pub fn refused_evidence() -> [f64; 4]
+    ensures { (number evaluations : ℕ) → result ≡ evidence_of (refused number (zeros evaluations)) }
+{
+    [0.0; 4]
+}
+
 // An answer's rows: its number, 0 where it was accepted, and evaluations; volatility, error, point c and its error. No `From` makes an array of a `Result`,
 // since neither type is a crate's own.
 #[tactic(auto, unfolding(ledger::specs::Rows::numbers_of, brent::specs::Outcome::outcome_of_implied, brent::specs::Outcome::zeros))]
@@ -76,7 +93,7 @@ pub fn numbers_of(answer: Result<Solution, Unsolved>) -> [u64; 2]
 {
     match answer {
         Ok(solution) => [0, solution.evaluations],
-        Err(unsolved) => [u64::from(unsolved.refusal), unsolved.evaluations],
+        Err(unsolved) => refused_numbers(u64::from(unsolved.refusal), unsolved.evaluations),
     }
 }
 
@@ -91,7 +108,7 @@ pub fn evidence_of(answer: Result<Solution, Unsolved>) -> [f64; 4]
             solution.c,
             solution.c_error,
         ],
-        Err(_) => [0.0; 4],
+        Err(_) => refused_evidence(),
     }
 }
 

@@ -17,8 +17,8 @@ use Rattle.chart.specs.Axis.{axis}
 use Rattle.chart.specs.Build.{Buffers, no_lengths, surface_of, is_small, refusal, BuildsTo}
 use Rattle.chart.specs.Steps.{Pos, number_by, axes_refusal, Accepted}
 use Rattle.chart.proofs.Ordered.{pos_in}
-use Rattle.chart.proofs.Builds as builds
-use Rattle.chart.proofs.Builds.{Cut}
+use Rattle.chart.proofs.Execution as builds
+use Rattle.chart.proofs.Execution.{Cut}
 
 -- each value of a column
 pub all_above : (xs : List Float) → Pos xs → All (λ x. T (positive x)) xs

@@ -1,5 +1,6 @@
 pub mod Building
 pub mod Filed
+pub mod Gathering
 pub mod Halving
 pub mod Held
 pub mod Placing

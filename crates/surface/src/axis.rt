@@ -1,5 +1,5 @@
 // An axis of the values of a column, and a value's place on it.
-ghost use Rattle.std.specs.Prelude.{◌≡◌, ◌≤◌, T, All, length};
+ghost use Rattle.std.specs.Prelude.{◌≡◌, ◌≤◌, T, All, [], length, take};
 ghost use Rattle.std.specs.Float.Ieee.Positive.{positive};
 ghost use Rattle.chart.specs.Axis.{sort, thinned, axis, place};
 ghost use Rattle.chart.specs.Steps.{reaches, OnAxis};
@@ -19,32 +19,54 @@ pub(crate) struct Column<'a> {
 }
 
 impl Column<'_> {
-    // The axis of its values.
-    pub(crate) fn axis(&self) -> Values
-        ensures { result.items ≡ axis self.now.values.now }
+    // Makes the axis of its values in a vector that is lent, so that a build moves none and its stack holds each once.
+    pub(crate) fn make_axis(&self, made: &mut Values)
+        requires { made.old.items ≡ [] }
+        ensures { made.new.items ≡ axis self.now.values.now }
     {
-        thinned(&sorted(self.values))
+        gather(made, self.values);
+        put_in_order(made.as_mut_slice());
+        let kept = thin_out(made.as_mut_slice());
+        made.truncate(kept);
     }
 }
 
-// The values in order. Above zero no two that differ test equal, so std's sort gives what the definition's insertion gives.
-fn sorted(values: &[f64]) -> Values
-    requires { (length values.now ≤ 1024) × All (λ x. T (positive x)) values.now }
-    ensures { result.items ≡ sort values.now }
+// Takes the values, of one that comes again and again the first alone: of values that come in order a sort has each once. No axis is changed by it.
+fn gather(gathered: &mut Values, values: &[f64])
+    requires { (gathered.old.items ≡ []) × (length values.now ≤ 1024) × All (λ x. T (positive x)) values.now }
+    ensures above_zero { All (λ x. T (positive x)) gathered.new.items }
+    ensures same_axis { axis gathered.new.items ≡ axis values.now }
 {
-    let mut sorted = Values::try_from(values).unwrap();
-    sorted.sort_unstable_by_key(|x| OrderedFloat(*x));
-    sorted
+    for v in values {
+        if !gathered.last().is_some_and(|last| *last == *v) {
+            gathered.push(*v);
+        }
+    }
 }
 
-// Sorted values without each that is too near the last one kept.
-fn thinned(sorted: &Values) -> Values
-    ensures { result.items ≡ thinned sorted.now.items }
+// Puts values in order. Above zero no two that differ test equal, so std's sort gives what the definition's insertion gives.
+fn put_in_order(values: &mut [f64])
+    requires { All (λ x. T (positive x)) values.old }
+    ensures { values.new ≡ sort values.old }
 {
-    let mut kept = Values::new();
-    for v in sorted.as_slice() {
-        if !kept.last().is_some_and(|last| reaches(*last, *v)) {
-            kept.push(*v);
+    values.sort_unstable_by_key(|x| OrderedFloat(*x));
+}
+
+// Drops each of sorted values that is too near the last one kept, and returns how many are left.
+fn thin_out(sorted: &mut [f64]) -> usize
+    ensures { (take result sorted.new ≡ thinned sorted.old) × (result ≤ length sorted.old) }
+{
+    let Some(first) = sorted.first() else {
+        return 0;
+    };
+    let mut last = *first;
+    let mut kept = 1;
+    for i in 1..sorted.len() {
+        let v = sorted[i];
+        if !reaches(last, v) {
+            sorted[kept] = v;
+            kept += 1;
+            last = v;
         }
     }
     kept

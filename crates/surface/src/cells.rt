@@ -6,7 +6,7 @@ ghost use Rattle.grid.specs.Layout.{cell_at, values};
 ghost use Rattle.chart.specs.Quotes.{all_in_range};
 ghost use Rattle.chart.specs.Axis.{place};
 ghost use Rattle.chart.specs.Cells.{axes};
-ghost use Rattle.chart.specs.Steps.{Filed, held, CellsWritten};
+ghost use Rattle.chart.specs.Steps.{Blank, Filed, held, CellsWritten};
 ghost use Rattle.chart.specs.Build.{front, surface_of};
 ghost use Rattle.admission.specs.Lent.{buffers_in, SameBuffers};
 ghost use Rattle.surface.specs.Quoted.{quotes_in};
@@ -107,12 +107,11 @@ impl Placed<'_> {
             + place(self.strikes, self.quotes.strikes[i])
     }
 
-    // Files each quote in its cell: its volatility goes to the cell's sum, and one to its count.
-    fn tally(&self) -> [Cell; 2048]
-        ensures { Filed (axes_in self.now) (quotes_in self.now.quotes) (sums result) (numbers result) }
+    // Files each quote in its cell: its volatility goes to the cell's sum, and one to its count. The cells are lent, so that none is moved.
+    fn tally(&self, cells: &mut [Cell; 2048])
+        requires { Blank (sums cells.old) (numbers cells.old) }
+        ensures { Filed (axes_in self.now) (quotes_in self.now.quotes) (sums cells.new) (numbers cells.new) }
     {
-        let empty = Cell::default();
-        let mut cells = [empty; 2048];
         for i in 0..self.quotes.strikes.len() {
             let at = self.home(i);
             let cell = cells[at];
@@ -121,7 +120,6 @@ impl Placed<'_> {
                 number: cell.number + 1,
             };
         }
-        cells
     }
 
     // The rows of the grid and of the counts, each lent as a part that starts in its middle.
@@ -129,7 +127,9 @@ impl Placed<'_> {
         requires { (2048 ≤ length grid.old) × (2048 ≤ length counts.old) }
         ensures { CellsWritten (axes_in self.now) (quotes_in self.now.quotes) grid.old counts.old grid.new counts.new }
     {
-        let cells = self.tally();
+        let empty = Cell::default();
+        let mut cells = [empty; 2048];
+        self.tally(&mut cells);
         for i in 0..self.expiries.len() {
             let start = 64 * i;
             let end = start + self.strikes.len();

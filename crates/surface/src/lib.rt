@@ -8,7 +8,7 @@ mod axis;
 mod cells;
 
 use admission::{Quotes, SurfaceBuffers};
-use axis::Column;
+use axis::{Column, Values};
 use cells::Placed;
 use chart::Lengths;
 use limits::Refusal;
@@ -24,14 +24,16 @@ pub fn build(
 {
     admission::check_quotes(quotes, count, buffers.is_small())?;
     let quotes = quotes.first(count as usize);
-    let strikes = Column {
+    let mut strikes = Values::new();
+    Column {
         values: quotes.strikes,
     }
-    .axis();
-    let expiries = Column {
+    .make_axis(&mut strikes);
+    let mut expiries = Values::new();
+    Column {
         values: quotes.expiries,
     }
-    .axis();
+    .make_axis(&mut expiries);
     admission::check_axes(strikes.len(), expiries.len())?;
     let placed = Placed {
         quotes,

@@ -303,10 +303,21 @@ fn call(input: &mut [u8]) {
     command(input);
 }
 
+// A call's number of words; 0 at the end. Of a head that is cut off what came counts, with zero bytes behind it.
+fn size() -> usize
+    ensures { result ≤ 3855 }
+{
+    let mut head = [0; 17];
+    io::read_full(STDIN_FILENO, &mut head);
+    number(&mut Words { text: &head }, 3855)
+}
+
 fn main() {
     let mut space = io::large_buffer();
-    for head in iter::from_fn(vectors::read_line::<17>).take(100000) {
-        let size = number(&mut Words { text: &head }, 3855);
-        call(&mut space[..17 * size]);
+    for words in iter::repeat_with(size).take(100000) {
+        if words == 0 {
+            break;
+        }
+        call(&mut space[..17 * words]);
     }
 }

@@ -2,12 +2,14 @@
 // No contract can say what the input gives or what the output holds.
 #![tactic(auto)]
 
-ghost use Rattle.std.specs.Prelude.{◌≡◌, drop};
+ghost use Rattle.std.specs.Prelude.{◌≡◌, ◌++◌, codes, drop};
 ghost use Rattle.std.specs.Float.{binary64};
 ghost use Rattle.std.specs.Float.Ieee.{of_bits};
 ghost use Rattle.vectors.specs.Words.{first_word};
 ghost use Rattle.vectors.specs.Wanted.{is_met};
 ghost use Rattle.vectors.specs.Tally.{counted, is_empty, verdict};
+
+use arrayvec::ArrayVec;
 
 const STDIN_FILENO: i32 = 0;
 
@@ -48,11 +50,12 @@ impl Words<'_> {
     }
 }
 
-// Writes a space and 16 hexadecimal digits in upper case. No `Display`, nor one for `Tally`: the test programs write through crate `io`, and std prints a
-// `Display` with the runtime's handle.
+// Writes a space and 16 hexadecimal digits in upper case, in one write. No `Display`, nor one for `Tally`: the test programs write through crate `io`, and std
+// prints a `Display` with the runtime's handle.
 pub fn print_word(n: u64) {
-    io::write_all(STDOUT_FILENO, b" ");
-    io::write_all(STDOUT_FILENO, &frames::digits_of(n));
+    let mut text = [b' '; 17];
+    text[1..].copy_from_slice(&frames::digits_of(n));
+    io::write_all(STDOUT_FILENO, &text);
 }
 
 // What a vector asks of an answer: the same bits, a distance of at most the tolerance, or a value from low to high, ends included.
@@ -81,6 +84,17 @@ pub fn verdict(agrees: bool) -> &'static [u8]
     ensures { result.now ≡ verdict agrees }
 {
     if agrees { b"ok" } else { b"MISMATCH" }
+}
+
+// The end of a vector's line, for one write: a space, the verdict and a line feed.
+pub fn line_end(agrees: bool) -> ArrayVec<u8, 10>
+    ensures { result.items ≡ codes " " ++ verdict agrees ++ codes "\n" }
+{
+    let mut text = ArrayVec::new();
+    text.push(b' ');
+    text.try_extend_from_slice(verdict(agrees)).unwrap();
+    text.push(b'\n');
+    text
 }
 
 // How many answers agreed, and how many did not.

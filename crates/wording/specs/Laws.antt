@@ -1,5 +1,6 @@
 -- What holds of the words, whatever the code does: where each figure of an answer stands, and what each name asks.
-use Rattle.std.specs.Prelude.{ℕ, ◌≡◌, true, false, List, [], ◌∷◌, Float, Some, None, codes}
+use Prim.Native.String.{String}
+use Rattle.std.specs.Prelude.{ℕ, ◌≡◌, ◌<◌, true, false, List, [], ◌∷◌, length, Float, Some, None, codes}
 use Rattle.std.specs.Float.{binary64}
 use Rattle.std.specs.Float.Ieee.{to_bits, of_bits}
 use Rattle.floats.specs.Operators.{decimal}
@@ -27,6 +28,10 @@ float_of n = of_bits binary64 n
 abbrev pub option_at : OptionType → Float → Float → Float → Float → Float → OptionParams
 option_at kind s k t r v =
     record { spot = s; strike = k; time_to_expiry = t; risk_free_rate = r; volatility = v; option_type = kind }
+
+-- A line of this name with another count of words asks nothing.
+abbrev pub takes_just : ℕ → String → Type 0
+takes_just n name = (xs : List ℕ) → (length xs ≡ n → ⊥) → request_of (codes name) xs ≡ None
 
 pub record Laws : Type 0 where
   -- an offer: number, evaluations, volatility, error, point c, the error there
@@ -77,3 +82,20 @@ pub record Laws : Type 0 where
   pub no_kind : (s k t r v : ℕ) → request_of (codes "greeks") (2 ∷ s ∷ k ∷ t ∷ r ∷ v ∷ []) ≡ None
   pub too_few : (s k t r : ℕ) → request_of (codes "greeks") (1 ∷ s ∷ k ∷ t ∷ r ∷ []) ≡ None
   pub too_many : (s k t r v x : ℕ) (xs : List ℕ) → request_of (codes "greeks") (1 ∷ s ∷ k ∷ t ∷ r ∷ v ∷ x ∷ xs) ≡ None
+  pub no_kind_of_price : (s k t r v : ℕ) → request_of (codes "price ") (2 ∷ s ∷ k ∷ t ∷ r ∷ v ∷ []) ≡ None
+  pub no_kind_of_ends : (k t m : ℕ) → request_of (codes "ends  ") (2 ∷ k ∷ t ∷ m ∷ []) ≡ None
+  -- nor any word above 1, of each name that has a kind
+  pub kinds_of_price : (p s k t r v : ℕ) → 1 < p → request_of (codes "price ") (p ∷ s ∷ k ∷ t ∷ r ∷ v ∷ []) ≡ None
+  pub kinds_of_greeks : (p s k t r v : ℕ) → 1 < p → request_of (codes "greeks") (p ∷ s ∷ k ∷ t ∷ r ∷ v ∷ []) ≡ None
+  pub kinds_of_ends : (p k t m : ℕ) → 1 < p → request_of (codes "ends  ") (p ∷ k ∷ t ∷ m ∷ []) ≡ None
+  -- another count of words, fewer or more, of each name
+  pub words_of_open : takes_just 2 "open  "
+  pub words_of_call : takes_just 3 "call  "
+  pub words_of_put : takes_just 3 "put   "
+  pub words_of_vol : takes_just 3 "vol   "
+  pub words_of_build : takes_just 0 "build "
+  pub words_of_read : takes_just 2 "read  "
+  pub words_of_money : takes_just 1 "money "
+  pub words_of_price : takes_just 6 "price "
+  pub words_of_greeks : takes_just 6 "greeks"
+  pub words_of_ends : takes_just 4 "ends  "

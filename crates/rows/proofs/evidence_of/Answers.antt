@@ -1,9 +1,7 @@
--- `rows::evidence_of`: the zeros of a refusal, as the code writes them. Assumes nothing.
-use Rattle.limits.proofs.Float.{of_bits, round}
-use Rattle.brent.specs.Outcome.{zeros, outcome_of_implied}
-use Rattle.ledger.specs.Rows.{evidence_of}
+-- `rows::evidence_of`: the zeros of a refusal, of any number and evaluations. Assumes nothing.
+use Rattle.brent.specs.Outcome.{outcome_of_implied}
 use Rattle.rows.proofs.evidence_of.Goals as goal
 
 pub returns-in-Err : goal.returns-in-Err
-unfolding evidence_of outcome_of_implied zeros of_bits round
-returns-in-Err c = rw c.in-Err.is
+unfolding outcome_of_implied
+returns-in-Err c = rw c.in-Err.is (c.refused_evidence.ensures _ _)

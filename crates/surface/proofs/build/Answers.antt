@@ -1,7 +1,7 @@
 -- `surface::build`: the steps of a build, each with what the one before it promises. Assumes nothing.
 use Rattle.std.proofs.lemmas.Result.{err_from_is_err_and}
 use Rattle.limits.proofs.Refusals.{some}
-use Rattle.chart.proofs.Builds as builds
+use Rattle.chart.proofs.Execution as builds
 use Rattle.admission.specs.Lent.{columns_in, buffers_in}
 use Rattle.surface.proofs.Building.{all_above, cut, axes_refused, accepted, built}
 use mathlib.Core.Path.{sym, ◌∙◌}
@@ -15,13 +15,13 @@ returns-in_err-check_quotes-clause-builds c =
     rw (p.1, p.2)
     (builds.quotes_refused (columns_in c.args.quotes.now) c.args.count (buffers_in c.args.buffers.now) _ c.is_small.ensures _ why.ensures (some why.field-0.0))
 
-pub invariant_of-axis : goal.invariant_of-axis
-invariant_of-axis c =
+pub invariant_of-make_axis : goal.invariant_of-make_axis
+invariant_of-make_axis c =
     let C = cut c.is_small.ensures c.in_ok-check_quotes.ensures c.first-quotes.ensures in
     record { few = omega (arith, builds.few C, builds.strikes_cut C); above_zero = all_above _ (builds.strikes_above_zero C) }
 
-pub invariant_of-axis-2 : goal.invariant_of-axis-2
-invariant_of-axis-2 c =
+pub invariant_of-make_axis-2 : goal.invariant_of-make_axis-2
+invariant_of-make_axis-2 c =
     let C = cut c.is_small.ensures c.in_ok-check_quotes.ensures c.first-quotes.ensures in
     record { few = omega (arith, builds.few C, builds.expiries_cut C); above_zero = all_above _ (builds.expiries_above_zero C) }
 
@@ -31,13 +31,13 @@ returns-in_err-check_axes-clause-builds c =
     let p = err_from_is_err_and c.from_residual-in_err-check_axes.result c.from_residual-in_err-check_axes.ensures.1 in
     let why = c.in_err-check_axes in
     rw (p.1, p.2)
-    (axes_refused C c.axis-strikes.ensures c.axis-expiries.ensures c.len.ensures.value c.len-2.ensures.value _ why.ensures (some why.field-0.0))
+    (axes_refused C c.make_axis.ensures c.make_axis-2.ensures c.len.ensures.value c.len-2.ensures.value _ why.ensures (some why.field-0.0))
 
 pub invariant_of-placed : goal.invariant_of-placed
 invariant_of-placed c =
     let C = cut c.is_small.ensures c.in_ok-check_quotes.ensures c.first-quotes.ensures in
-    let k = c.as_slice.ensures.value ∙ c.axis-strikes.ensures in
-    let e = c.as_slice-2.ensures.value ∙ c.axis-expiries.ensures in
+    let k = c.as_slice.ensures.value ∙ c.make_axis.ensures in
+    let e = c.as_slice-2.ensures.value ∙ c.make_axis-2.ensures in
     let A = accepted C k e (rw c.as_slice.ensures.value c.len.ensures.value) (rw c.as_slice-2.ensures.value c.len-2.ensures.value) c.in_ok-check_axes.ensures in
     let n = builds.strikes_cut C in
     record {
@@ -53,11 +53,11 @@ invariant_of-placed c =
 pub write-requires : goal.write-requires
 write-requires c =
     let C = cut c.is_small.ensures c.in_ok-check_quotes.ensures c.first-quotes.ensures in
-    let A = accepted C c.axis-strikes.ensures c.axis-expiries.ensures c.len.ensures.value c.len-2.ensures.value c.in_ok-check_axes.ensures in
+    let A = accepted C c.make_axis.ensures c.make_axis-2.ensures c.len.ensures.value c.len-2.ensures.value c.in_ok-check_axes.ensures in
     (A.long_strikes, A.long_expiries, A.long_grid, A.long_counts)
 
 pub returns-clause-builds : goal.returns-clause-builds
 returns-clause-builds c =
     let C = cut c.is_small.ensures c.in_ok-check_quotes.ensures c.first-quotes.ensures in
-    built C c.axis-strikes.ensures c.axis-expiries.ensures c.len.ensures.value c.len-2.ensures.value c.in_ok-check_axes.ensures
+    built C c.make_axis.ensures c.make_axis-2.ensures c.len.ensures.value c.len-2.ensures.value c.in_ok-check_axes.ensures
     _ _ c.len-3.ensures.value c.len-4.ensures.value _ c.write.ensures.written

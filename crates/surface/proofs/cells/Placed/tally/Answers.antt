@@ -4,28 +4,18 @@ use Rattle.chart.specs.Quotes.{Columns}
 use Rattle.chart.specs.Axis.{place}
 use Rattle.admission.specs.Lent.{columns_in}
 use Rattle.surface.proofs.Placing.{housed}
-use Rattle.surface.proofs.Filed.{no_cell, sum_at, number_at, sum_filed, number_filed}
+use Rattle.surface.proofs.Filed.{no_cell, number_at, sum_filed, number_filed}
 use Rattle.surface.specs.Filed.{sums, numbers}
-use Rattle.surface.specs.declared.cells.Cell.{Cell}
 use Rattle.floats.specs.Operators.{◌⊕◌}
 use Prim.Native.Nat.{◌+◌, ◌<◌}
-use mathlib.Core.Path.{refl, ap, ◌∙◌}
-use lib.ListN.{length, get_or, replicate, get_or-replicate}
-use lib.Ieee.{nan, of_bits, round}
+use mathlib.Core.Path.{refl}
+use lib.ListN.{length, get_or}
+use lib.Ieee.{nan}
 use native.Mathlib.Omega.{arith}
 use Rattle.surface.proofs.cells.Placed.tally.Goals as goal
 
 pub loop-i-init : goal.loop-i-init
-unfolding of_bits round
-loop-i-init c =
-    let new = c.default-empty.result in
-    let all = replicate 2048 new in
-    file_start _ _ (sums all) (numbers all)
-    (record {
-      cells = (refl, refl);
-      sum = λ p h. sum_at all p ∙ ap (λ (c : Cell). c.sum) (get_or-replicate 2048 p new no_cell h) ∙ c.default-empty.ensures.0;
-      number = λ p h. number_at all p ∙ ap (λ (c : Cell). c.number) (get_or-replicate 2048 p new no_cell h) ∙ c.default-empty.ensures.1;
-    })
+loop-i-init c = file_start _ _ (sums c.args.cells.now) (numbers c.args.cells.now) c.requires
 
 pub overflow_add-cells : goal.overflow_add-cells
 overflow_add-cells c =
