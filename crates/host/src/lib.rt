@@ -21,7 +21,8 @@ ghost use Rattle.ledger.specs.Book.{columns_of, end_of};
 ghost use Rattle.ledger.specs.Build.{buffers_of};
 ghost use Rattle.trays.specs.Tray.{answers, lent, heard_offers};
 ghost use Rattle.host.specs.Answers.{told, over, option_of, greeks_entries, money_entries, written, solved_written};
-ghost use Rattle.chart.specs.Build.{outcome};
+ghost use Rattle.chart.specs.Build.{no_lengths};
+ghost use Rattle.outcomes.specs.Told.{told_outcome};
 ghost use Rattle.host.specs.Calls.{book_in, lengths_of, BuildsFor, QuotesFor};
 
 use admission::{Quotes, SurfaceBuffers};
@@ -31,6 +32,7 @@ use book::QuoteColumns;
 use chart::Lengths;
 use ledger::{Money, Opening};
 use limits::Refusal;
+use outcomes::Numbered;
 use readings::Surface;
 
 // ---- the functions of src/normal.rs and what it calls
@@ -244,8 +246,8 @@ pub extern "C" fn kite_at_the_money(
 }
 
 #[tactic(auto, unfolding(ledger::specs::Rows::lengths_of))]
-fn lengths_of(built: Result<Lengths, Refusal>) -> [u64; 2]
-    ensures { result ≡ lengths_of (outcome built) }
+fn lengths_of<E: Numbered>(built: Result<Lengths, E>) -> [u64; 2]
+    ensures { result ≡ lengths_of (told_outcome E.number_told (λ _. no_lengths) built) }
 {
     let lengths = outcomes::values_of(built, Lengths::default());
     [lengths.strikes as u64, lengths.expiries as u64]

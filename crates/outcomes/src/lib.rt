@@ -1,40 +1,55 @@
 // The number and the values of each answer, 0 and the refusal's zeros included, for hosts.
 #![tactic(auto)]
 
-ghost use Rattle.std.specs.Prelude.{◌≡◌};
-ghost use Rattle.limits.specs.Outcome.{number_of, values_of};
-ghost use Rattle.limits.specs.Refusals.{number_in, outcome_with};
-ghost use Rattle.outcomes.specs.Told.{number_told, outcome_told};
+ghost use Rattle.std.specs.Prelude.{◌≡◌, ℕ};
+ghost use Rattle.limits.specs.Outcome.{values_of};
+ghost use Rattle.limits.specs.Refusals.{number};
+ghost use Rattle.outcomes.specs.Told.{told_number, told_outcome};
 
 use limits::Refusal;
 
-// 0 for done, or the number, any number.
-pub fn number_told<T: Copy>(answer: Result<T, u64>) -> u64
-    ensures { result ≡ number_told answer }
-{
-    match answer {
-        Ok(_) => 0,
-        Err(number) => number,
+// What turned a call down, told by a number: one of document 01's table, or any other. No `Into`, whose member is a relation: this is an equation.
+pub trait Numbered: Copy {
+    ghost number_told: { Self → ℕ };
+
+    fn number(self) -> u64
+        ensures { result ≡ number_told self };
+}
+
+impl Numbered for Refusal {
+    ghost number_told = { number };
+
+    fn number(self) -> u64
+        ensures { result ≡ number self }
+    {
+        u64::from(self)
     }
 }
 
-// The values, or those that stand beside any number.
-pub fn values_told<T: Copy>(answer: Result<T, u64>, zeros: T) -> T
-    ensures { result ≡ values_of (outcome_told zeros answer) }
-{
-    answer.unwrap_or(zeros)
+// Any number, as it is.
+impl Numbered for u64 {
+    ghost number_told = { λ n. n };
+
+    fn number(self) -> u64
+        ensures { result ≡ self }
+    {
+        self
+    }
 }
 
 // 0 for done, or the refusal's number.
-pub fn number_of<T: Copy>(answer: Result<T, Refusal>) -> u64
-    ensures { result ≡ number_in answer }
+pub fn number_of<T: Copy, E: Numbered>(answer: Result<T, E>) -> u64
+    ensures { result ≡ told_number E.number_told answer }
 {
-    number_told(answer.map_err(u64::from))
+    match answer {
+        Ok(_) => 0,
+        Err(refusal) => refusal.number(),
+    }
 }
 
 // The values, or those that stand beside a number.
-pub fn values_of<T: Copy>(answer: Result<T, Refusal>, zeros: T) -> T
-    ensures { result ≡ values_of (outcome_with zeros answer) }
+pub fn values_of<T: Copy, E: Numbered>(answer: Result<T, E>, zeros: T) -> T
+    ensures { result ≡ values_of (told_outcome E.number_told (λ _. zeros) answer) }
 {
-    values_told(answer.map_err(u64::from), zeros)
+    answer.unwrap_or(zeros)
 }

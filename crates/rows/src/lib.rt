@@ -1,11 +1,10 @@
 // Rows of numbers made offers, options and the book's record, and answers made rows: which entry is which is ledger/specs/Rows'.
 #![tactic(auto)]
 
-ghost use Rattle.std.specs.Prelude.{◌≡◌, ℕ, min};
-ghost use Rattle.limits.specs.Outcome.{refused};
-ghost use Rattle.brent.specs.Outcome.{zeros};
-ghost use Rattle.blackscholes.specs.Implied.{outcome_of_implied};
+ghost use Rattle.std.specs.Prelude.{◌≡◌, ℕ, min, ◌∷◌, []};
+ghost use Rattle.limits.specs.Refusals.{number};
 ghost use Rattle.ledger.specs.Rows.{kind_of, terms_of, offer_of, option_of, numbers_of, evidence_of, shortest, book_in};
+ghost use Rattle.rows.specs.Told.{told_implied};
 
 use blackscholes::{OptionParams, OptionType};
 use brent::{Solution, Unsolved};
@@ -70,36 +69,56 @@ pub fn option_of(
     }
 }
 
-// The rows of a refusal by any number, after so many evaluations.
-#[tactic(auto, unfolding(ledger::specs::Rows::numbers_of, brent::specs::Outcome::zeros))]
-pub fn refused_numbers(number: u64, evaluations: u64) -> [u64; 2]
-    ensures { result ≡ numbers_of (refused number (zeros evaluations)) }
-{
-    [number, evaluations]
+// Why a solver found nothing, as a row tells it: a number, one of document 01's table or any other, and the evaluations made.
+pub trait Refused: Copy {
+    ghost number_told: { Self → ℕ };
+
+    ghost evaluations_told: { Self → ℕ };
+
+    fn told(self) -> [u64; 2]
+        ensures { result ≡ number_told self ∷ evaluations_told self ∷ [] };
 }
 
-#[tactic(auto, unfolding(ledger::specs::Rows::evidence_of, brent::specs::Outcome::zeros, limits::proofs::Float::of_bits, limits::proofs::Float::round))]
-pub fn refused_evidence() -> [f64; 4]
-    ensures { (number evaluations : ℕ) → result ≡ evidence_of (refused number (zeros evaluations)) }
-{
-    [0.0; 4]
+impl Refused for Unsolved {
+    ghost number_told = { λ unsolved. number unsolved.refusal };
+
+    ghost evaluations_told = { λ unsolved. unsolved.evaluations };
+
+    fn told(self) -> [u64; 2]
+        ensures { result ≡ number self.refusal ∷ self.evaluations ∷ [] }
+    {
+        [u64::from(self.refusal), self.evaluations]
+    }
+}
+
+// A number and evaluations, as they are.
+impl Refused for (u64, u64) {
+    ghost number_told = { λ told. told.0 };
+
+    ghost evaluations_told = { λ told. told.1 };
+
+    fn told(self) -> [u64; 2]
+        ensures { result ≡ self.0 ∷ self.1 ∷ [] }
+    {
+        [self.0, self.1]
+    }
 }
 
 // An answer's rows: its number, 0 where it was accepted, and evaluations; volatility, error, point c and its error. No `From` makes an array of a `Result`,
 // since neither type is a crate's own.
-#[tactic(auto, unfolding(ledger::specs::Rows::numbers_of, brent::specs::Outcome::outcome_of_implied, brent::specs::Outcome::zeros))]
-pub fn numbers_of(answer: Result<Solution, Unsolved>) -> [u64; 2]
-    ensures { result ≡ numbers_of (outcome_of_implied answer) }
+#[tactic(auto, unfolding(ledger::specs::Rows::numbers_of, brent::specs::Outcome::zeros))]
+pub fn numbers_of<E: Refused>(answer: Result<Solution, E>) -> [u64; 2]
+    ensures { result ≡ numbers_of (told_implied E.number_told E.evaluations_told answer) }
 {
     match answer {
         Ok(solution) => [0, solution.evaluations],
-        Err(unsolved) => refused_numbers(u64::from(unsolved.refusal), unsolved.evaluations),
+        Err(refusal) => refusal.told(),
     }
 }
 
-#[tactic(auto, unfolding(ledger::specs::Rows::evidence_of, brent::specs::Outcome::outcome_of_implied))]
-pub fn evidence_of(answer: Result<Solution, Unsolved>) -> [f64; 4]
-    ensures { result ≡ evidence_of (outcome_of_implied answer) }
+#[tactic(auto, unfolding(ledger::specs::Rows::evidence_of, brent::specs::Outcome::zeros, limits::proofs::Float::of_bits, limits::proofs::Float::round))]
+pub fn evidence_of<E: Refused>(answer: Result<Solution, E>) -> [f64; 4]
+    ensures { result ≡ evidence_of (told_implied E.number_told E.evaluations_told answer) }
 {
     match answer {
         Ok(solution) => [
@@ -108,7 +127,7 @@ pub fn evidence_of(answer: Result<Solution, Unsolved>) -> [f64; 4]
             solution.c,
             solution.c_error,
         ],
-        Err(_) => refused_evidence(),
+        Err(_) => [0.0; 4],
     }
 }
 

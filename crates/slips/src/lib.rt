@@ -3,29 +3,29 @@
 
 ghost use Rattle.std.specs.Prelude.{◌≡◌};
 ghost use Rattle.floats.specs.Operators.{decimal};
-ghost use Rattle.limits.specs.Outcome.{refused};
-ghost use Rattle.brent.specs.Outcome.{zeros};
-ghost use Rattle.blackscholes.specs.Checks.{outcome_of_price, pricing, sensitivities};
-ghost use Rattle.blackscholes.specs.Implied.{outcome_of_implied};
-ghost use Rattle.chart.specs.Build.{no_lengths, outcome};
-ghost use Rattle.ledger.specs.Money.{no_money, money_outcome};
-ghost use Rattle.outcomes.specs.Told.{outcome_told};
+ghost use Rattle.blackscholes.specs.Checks.{pricing, sensitivities};
+ghost use Rattle.chart.specs.Build.{no_lengths};
+ghost use Rattle.ledger.specs.Money.{no_money};
+ghost use Rattle.outcomes.specs.Told.{told_outcome};
+ghost use Rattle.rows.specs.Told.{told_implied};
 ghost use Rattle.wording.specs.Words.{value_words, money_words, offer_words, greeks_words, build_words, cell_words, ends_words};
 
 use blackscholes::{Greeks, OptionParams};
-use brent::{Answer, Solution, Unsolved};
+use brent::{Answer, Solution};
 use chart::Lengths;
 use frames::bits_of;
 use ledger::Money;
 use limits::Refusal;
+use outcomes::Numbered;
+use rows::Refused;
 
-// The words of an offer that is refused by any number, after so many evaluations.
+// From the two rows that hosts are answered, entry by entry.
 #[tactic(auto, unfolding(ledger::specs::Rows::numbers_of, ledger::specs::Rows::evidence_of))]
-pub fn refused_offer_words(number: u64, evaluations: u64) -> [u64; 6]
-    ensures { result ≡ offer_words (refused number (zeros evaluations)) }
+pub fn offer_words<E: Refused>(answer: Result<Solution, E>) -> [u64; 6]
+    ensures { result ≡ offer_words (told_implied E.number_told E.evaluations_told answer) }
 {
-    let [number, evaluations] = rows::refused_numbers(number, evaluations);
-    let [volatility, error, c, c_error] = rows::refused_evidence();
+    let [number, evaluations] = rows::numbers_of(answer);
+    let [volatility, error, c, c_error] = rows::evidence_of(answer);
     [
         number,
         evaluations,
@@ -36,39 +36,15 @@ pub fn refused_offer_words(number: u64, evaluations: u64) -> [u64; 6]
     ]
 }
 
-#[tactic(auto, unfolding(brent::specs::Outcome::outcome_of_implied))]
-pub fn offer_words(answer: Result<Solution, Unsolved>) -> [u64; 6]
-    ensures { result ≡ offer_words (outcome_of_implied answer) }
+pub fn build_words<E: Numbered>(answer: Result<Lengths, E>) -> [u64; 3]
+    ensures { result ≡ build_words (told_outcome E.number_told (λ _. no_lengths) answer) }
 {
-    match answer {
-        Ok(solution) => [
-            0,
-            solution.evaluations,
-            bits_of(solution.volatility),
-            bits_of(solution.error),
-            bits_of(solution.c),
-            bits_of(solution.c_error),
-        ],
-        Err(unsolved) => refused_offer_words(u64::from(unsolved.refusal), unsolved.evaluations),
-    }
-}
-
-// Of a build that is told by any number; so are a value's and those at the money below.
-pub fn build_words_told(answer: Result<Lengths, u64>) -> [u64; 3]
-    ensures { result ≡ build_words (outcome_told no_lengths answer) }
-{
-    let lengths = outcomes::values_told(answer, Lengths::default());
+    let lengths = outcomes::values_of(answer, Lengths::default());
     [
-        outcomes::number_told(answer),
+        outcomes::number_of(answer),
         lengths.strikes as u64,
         lengths.expiries as u64,
     ]
-}
-
-pub fn build_words(answer: Result<Lengths, Refusal>) -> [u64; 3]
-    ensures { result ≡ build_words (outcome answer) }
-{
-    build_words_told(answer.map_err(u64::from))
 }
 
 pub fn cell_words(value: f64, count: u64) -> [u64; 2]
@@ -78,34 +54,22 @@ pub fn cell_words(value: f64, count: u64) -> [u64; 2]
 }
 
 // A price's or a reading's.
-pub fn value_words_told(answer: Result<f64, u64>) -> [u64; 2]
-    ensures { result ≡ value_words (outcome_told (decimal 0 1) answer) }
+pub fn value_words<E: Numbered>(answer: Result<f64, E>) -> [u64; 2]
+    ensures { result ≡ value_words (told_outcome E.number_told (λ _. decimal 0 1) answer) }
 {
-    let value = outcomes::values_told(answer, 0.0);
-    [outcomes::number_told(answer), bits_of(value)]
+    let value = outcomes::values_of(answer, 0.0);
+    [outcomes::number_of(answer), bits_of(value)]
 }
 
-pub fn value_words(answer: Result<f64, Refusal>) -> [u64; 2]
-    ensures { result ≡ value_words (outcome_of_price answer) }
+pub fn money_words<E: Numbered>(answer: Result<Money, E>) -> [u64; 3]
+    ensures { result ≡ money_words (told_outcome E.number_told (λ _. no_money) answer) }
 {
-    value_words_told(answer.map_err(u64::from))
-}
-
-pub fn money_words_told(answer: Result<Money, u64>) -> [u64; 3]
-    ensures { result ≡ money_words (outcome_told no_money answer) }
-{
-    let money = outcomes::values_told(answer, Money::default());
+    let money = outcomes::values_of(answer, Money::default());
     [
-        outcomes::number_told(answer),
+        outcomes::number_of(answer),
         bits_of(money.strike),
         bits_of(money.volatility),
     ]
-}
-
-pub fn money_words(answer: Result<Money, Refusal>) -> [u64; 3]
-    ensures { result ≡ money_words (money_outcome answer) }
-{
-    money_words_told(answer.map_err(u64::from))
 }
 
 pub fn price_words(option: OptionParams) -> [u64; 2]

@@ -16,16 +16,18 @@ pub fn no_line() -> Line
     }
 }
 
-// One byte more of the line.
+// One byte more of the line. Of a full line nothing is copied: it may go on for millions of bytes.
 #[tactic(auto, unfolding(hexlines::specs::Lines::pushed))]
-pub fn push(mut line: Line, b: u8) -> Line
+pub fn push(line: Line, b: u8) -> Line
     ensures { result ≡ pushed line b }
 {
-    if line.seen < line.bytes.len() {
-        line.bytes[line.seen] = b;
-        line.seen += 1;
+    if line.seen >= line.bytes.len() {
+        return line;
     }
-    line
+    let mut longer = line;
+    longer.bytes[longer.seen] = b;
+    longer.seen += 1;
+    longer
 }
 
 // Takes the bytes from a place on into the line, up to a line feed and with it, or to their end. Both ends are places, as in hexlines' `taken` and its laws: of

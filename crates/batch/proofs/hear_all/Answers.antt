@@ -1,5 +1,7 @@
 -- `batch::hear_all`: one offer more is heard, and at the end none is left. Assumes nothing.
-use mathlib.Core.Path.{◌∙◌}
+use mathlib.Core.Path.{ap, ◌∙◌}
+use Rattle.ledger.specs.Rows.{numbers_of, evidence_of}
+use Rattle.rows.proofs.Told.{of_solver}
 use Rattle.trays.proofs.Listening.{read_offer, turn, finished}
 use Rattle.std.proofs.Common.{rules}
 use Rattle.book.specs.Lent.{columns_held}
@@ -12,13 +14,15 @@ loop-i-preserved c =
     let o = c.args.offers.now in
     let O = c.offer-heard in
     let s = O.ensures.same_memory in
+    let n = c.numbers_of.ensures ∙ ap numbers_of (of_solver O.result.answer) in
+    let x = c.evidence_of.ensures ∙ ap evidence_of (of_solver O.result.answer) in
     let a = at.invariant.0 in
     let t = at.invariant.1 in
     let q = c.offer_of.ensures ∙ read_offer o.kinds.now o.figures.now at.i _ _ (search rules) (search rules) in (
       record { numbers = a.numbers; evidence = a.evidence },
       record { strikes = s.strikes ∙ t.strikes; expiries = s.expiries ∙ t.expiries; volatilities = s.volatilities ∙ t.volatilities },
       turn o.kinds.now o.figures.now c.shortest-n.result at.i (record { book = at.b; columns = columns_held at.columns }) _ (answers_in at.answers) _ _
-          O.result _ _ _ c.loop-i-test.true q O.ensures.offers c.numbers_of.ensures c.evidence_of.ensures at.invariant.2,
+          O.result _ _ _ c.loop-i-test.true q O.ensures.offers n x at.invariant.2,
     )
 
 pub returns-clause-hears : goal.returns-clause-hears

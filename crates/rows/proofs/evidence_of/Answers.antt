@@ -1,7 +1,9 @@
--- `rows::evidence_of`: the zeros of a refusal, of any number and evaluations. Assumes nothing.
-use Rattle.brent.specs.Outcome.{outcome_of_implied}
+-- `rows::evidence_of`: the zeros of a refusal, as the code writes them. Assumes nothing.
+use Rattle.limits.proofs.Float.{of_bits, round}
+use Rattle.brent.specs.Outcome.{zeros}
+use Rattle.ledger.specs.Rows.{evidence_of}
 use Rattle.rows.proofs.evidence_of.Goals as goal
 
 pub returns-in-Err : goal.returns-in-Err
-unfolding outcome_of_implied
-returns-in-Err c = rw c.in-Err.is (c.refused_evidence.ensures _ _)
+unfolding evidence_of zeros of_bits round
+returns-in-Err g c = rw c.in-Err.is
