@@ -1,7 +1,7 @@
 /*
  * kitesettee.h: option quotes that cannot be silently wrong, for C and C++.
  *
- * Link with crates/host/out/libhost.a, which `rt lib` in crates/host writes (x86-64 Linux; it needs no other library):
+ * Link with crates/host/out/libhost.a, which `rt lib` in crates/host writes (x86-64 Linux; it needs memcpy and memset at most, and no other library):
  *
  *     cc -I hosts/c desk.c crates/host/out/libhost.a -o desk
  *
